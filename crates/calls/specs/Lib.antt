@@ -1,0 +1,4 @@
+pub mod Events
+pub mod Objects
+pub mod Plans
+pub mod Positions

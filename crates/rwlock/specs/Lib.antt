@@ -1,0 +1,2 @@
+pub mod RwLock
+pub mod Positions

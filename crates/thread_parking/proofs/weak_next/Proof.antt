@@ -1,0 +1,14 @@
+use Rattle.thread_parking.specs.ThreadParking.{weakNext}
+use mathlib.Core.Path.{refl}
+use Rattle.thread_parking.proofs.weak_next.Statement.{statement}
+use Rattle.thread_parking.proofs.weak_next.Tie as tie
+use Rattle.thread_parking.proofs.weak_next.Reads as reads
+use Rattle.thread_parking.proofs.weak_next.Lts as lts
+
+-- src/lib.rt:224:1
+returns : tie.Need-returns
+unfolding weakNext
+returns c = refl
+
+pub weak-next-spec : {M : Type 1} → statement M
+weak-next-spec = tie.close (tie.spec returns)

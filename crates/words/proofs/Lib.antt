@@ -1,0 +1,4 @@
+pub mod Bits
+pub mod Cond
+pub mod Determined
+pub mod Readings
