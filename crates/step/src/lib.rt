@@ -2,19 +2,19 @@
 // sound: each has an answer for every world value.
 use calls::At;
 use calls::Event;
-use calls::Plan;
-use calls::Thread;
 use calls::MUTEXES;
+use calls::Plan;
 use calls::RWLOCKS;
+use calls::Thread;
 use calls::WORDS;
 use once::Ending;
 use queue::Row;
 use queue::THREADS;
 use words::Hold;
 use words::Wake;
-use world::World;
 use world::LOCK_HOLDS;
 use world::MUTEX_HOLDS;
+use world::World;
 ghost use Prim.Native.Nat.{ℕ, min, _-_, _%_, _<_};
 ghost use mathlib.Core.Path.{_≡_};
 ghost use mathlib.Core.Bool.{Bool, cond, false};

@@ -1,9 +1,9 @@
 // A world: threads, words, holds and the row of sleepers, by value. A world handed in may be any value of
 // its type: every function has an answer for it.
 use calls::At;
-use calls::Thread;
 use calls::MUTEXES;
 use calls::RWLOCKS;
+use calls::Thread;
 use calls::WORDS;
 use queue::Row;
 use queue::THREADS;

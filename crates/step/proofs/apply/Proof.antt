@@ -47,7 +47,7 @@ slept-row-requires c κs = search needs
 
 -- src/lib.rt:304:1
 returns : tie.Need-returns
-returns c = 
+returns c =
     let a = c .before .before .before .before .before .before .before .before .before .before .before .before .before .before .before .before .args in
     let w = c .before .before .before .before .before .before .before .before .before .before .before .before .before .before .before .wakes in
     applied (a .w) (a .t) (a .k) (a .place) (a .p) (w .result) (c .before .before .before .before .before .before .before .before .before .before .before .before .before .before .tell .result) (c .before .before .before .before .before .put-word .result) (c .before .before .put-reads .result)

@@ -20,7 +20,7 @@ place-of-requires c κs = search needs
 
 -- src/lib.rt:125:1
 returns : tie.Need-returns
-returns c = 
+returns c =
     let m = c .before in
     let a = m .before .before .before .args in
     c .place-of .ensures ∙

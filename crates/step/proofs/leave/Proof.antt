@@ -20,7 +20,7 @@ left-by-requires c κs = search needs
 
 -- src/lib.rt:180:1
 returns : tie.Need-returns
-returns c = 
+returns c =
     let a = c .before .before .args in
     let l : length (a .row .places) ≡ THREADS = search needs in
     rw (c .left-by .ensures, c .before .without .ensures, left-by (isWanted (a .wanted)) (a .row) l)

@@ -58,7 +58,7 @@ loop-less c = search needs
 
 -- src/lib.rt:89:5
 loop-again : tie.Need-loop-again Inv-loop μ-loop
-loop-again c = 
+loop-again c =
     let b = c .before .before .before .loop in
     let a = c .before .before .before .before .args in
     let h : b .t < length (b .flags) = omega arith in
@@ -66,7 +66,7 @@ loop-again c =
 
 -- src/lib.rt:84:1
 returns : tie.Need-returns Inv-loop μ-loop
-returns c = 
+returns c =
     let b = c .before .loop in
     let a = c .before .before .args in
     let e : length (a .t1) ≡ THREADS = search needs in

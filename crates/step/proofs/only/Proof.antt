@@ -21,7 +21,7 @@ returns c = search needs
 
 -- src/lib.rt:398:1
 returns-2 : tie.Need-returns-2
-returns-2 c = 
+returns-2 c =
     let a = c .before .args in
     let h : length (replicate THREADS false) ≤ a .t = omega arith in
     sym (set-out (replicate THREADS false) (a .t) true h)

@@ -24,7 +24,7 @@ returns c = search needs
 
 -- src/lib.rt:60:1
 returns-2 : tie.Need-returns-2
-returns-2 c = 
+returns-2 c =
     let a = c .before .args in
     let e : length (a .threads) ≡ THREADS = search needs in
     let h : length (a .threads) ≤ a .t = omega arith in

@@ -24,7 +24,7 @@ returns c = search needs
 
 -- src/lib.rt:49:1
 returns-2 : tie.Need-returns-2
-returns-2 c = 
+returns-2 c =
     let a = c .before .args in
     let e : length (a .words) ≡ WORDS = search needs in
     let h : length (a .words) ≤ a .k = omega arith in

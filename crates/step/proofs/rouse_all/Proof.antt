@@ -62,14 +62,14 @@ loop-less c = search needs
 
 -- src/lib.rt:114:5
 loop-again : tie.Need-loop-again Inv-loop μ-loop
-loop-again c = 
+loop-again c =
     let b = c .before .before .before .loop in
     let h : b .t < length (b .ths) = omega arith in
     (omega arith, (search needs, rouse-turn (c .before .before .before .before .args .k) (b .t) (c .rouse-on .result) (b .ths) h (c .rouse-on .ensures) ∙ b .inv .1 .1))
 
 -- src/lib.rt:109:1
 returns : tie.Need-returns Inv-loop μ-loop
-returns c = 
+returns c =
     let b = c .before .loop in
     let h : length (b .ths) ≤ b .t = omega arith in
     sym (rouse-end (c .before .before .args .k) (b .t) (b .ths) h) ∙ b .inv .1 .1

@@ -37,7 +37,7 @@ apply-requires c κs = search needs
 
 -- src/lib.rt:357:9
 returns : tie.Need-returns
-returns c = 
+returns c =
     let a = c .before .before .before .before .before .before .before .before .before .args in
     stepped (a .w) (a .t) (a .fails) (c .before .before .before .before .before .before .before .thread-at .result) (c .before .before .before .before .before .before .operand .result) (c .before .before .before .before .first-on .result) (c .before .before .word-at .result)
     (c .before .decide .result) (c .apply .result) (c .before .before .before .before .before .before .before .thread-at .ensures) (c .before .before .before .before .before .before .operand .ensures) (c .before .before .before .before .before .if1 .taken) (c .before .before .before .before .first-on .ensures)
@@ -45,7 +45,7 @@ returns c =
 
 -- src/lib.rt:343:1
 returns-2 : tie.Need-returns-2
-returns-2 c = 
+returns-2 c =
     let a = c .before .before .before .before .args in
     not-stepped (a .w) (a .t) (a .fails) (c .before .before .thread-at .result) (c .before .operand .result) (c .before .before .thread-at .ensures) (c .before .operand .ensures)
     (c .if1 .left)

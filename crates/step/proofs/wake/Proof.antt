@@ -38,7 +38,7 @@ put-record-requires c κs = search needs
 -- src/lib.rt:411:1
 returns : tie.Need-returns
 unfolding wakeOf
-returns c = 
+returns c =
     let b = c .before .before in
     let d = b .before .before in
     rw (← d .before .before .before .thread-at .ensures, ← d .before .before .rouse .ensures, ← d .only .ensures, ← b .before .place-of .ensures, ← b .take-out .ensures)

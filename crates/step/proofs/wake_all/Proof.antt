@@ -23,7 +23,7 @@ rouse-all-requires c κs = search needs
 
 -- src/lib.rt:191:1
 returns : tie.Need-returns
-returns c = 
+returns c =
     let m = c .before .before .before in
     let a = m .before .before .before .args in
     all-woken (a .w) (a .k) (isWanted (m .marks .result)) (c .before .rouse-all .result) (c .before .before .leave .result)

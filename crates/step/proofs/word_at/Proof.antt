@@ -23,7 +23,7 @@ returns c = search needs
 
 -- src/lib.rt:40:1
 returns-2 : tie.Need-returns-2
-returns-2 c = 
+returns-2 c =
     let a = c .before .args in
     let e : length (a .t1) ≡ WORDS = search needs in
     let h : length (a .t1) ≤ a .k = omega arith in

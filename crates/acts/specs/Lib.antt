@@ -1,0 +1,3 @@
+pub mod Acts
+pub mod Refusals
+pub mod Solo

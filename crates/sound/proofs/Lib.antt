@@ -1,0 +1,7 @@
+pub mod Determined
+pub mod Examples
+pub mod Holds
+pub mod Loops
+pub mod Ranges
+pub mod Readings
+pub mod Standing
