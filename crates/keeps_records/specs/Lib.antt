@@ -1,0 +1,8 @@
+pub mod Shape
+pub mod Records
+pub mod Names
+pub mod Words
+pub mod Rows
+pub mod Sleeping
+pub mod Needed
+pub mod Begun
