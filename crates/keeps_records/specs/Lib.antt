@@ -4,5 +4,4 @@ pub mod Names
 pub mod Words
 pub mod Rows
 pub mod Sleeping
-pub mod Needed
 pub mod Begun
