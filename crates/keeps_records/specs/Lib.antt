@@ -4,4 +4,3 @@ pub mod Names
 pub mod Words
 pub mod Rows
 pub mod Sleeping
-pub mod Begun

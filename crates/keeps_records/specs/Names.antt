@@ -25,13 +25,13 @@ use Rattle.sound.proofs.Readings.{InRange, sound-clauses, name-exists, names-ex
 use Rattle.acts.specs.declared.Fields.{Fields}
 use Rattle.acts.specs.Refusals.{SET, BEGIN, choicesOf, threadExists, unnamedZero, objectExists, callExists, waitExists, fieldsRefusal, startOf}
 use Rattle.acts.specs.Acts.{endingOf, acceptedOf}
+use Rattle.kept.specs.Shape.{Shaped}
 use Rattle.kept.specs.Tests.{decided, and-right}
 use Rattle.kept.specs.Laws.{kindOf, objectOf, largest}
 use Rattle.kept.specs.Places.{operand-is}
 use Rattle.kept.specs.Calls.{exists-kept, passed-within}
 use Rattle.kept.specs.Waits.{exists-after-wait, passed-after-wait, exists-closed, passed-closed}
 use Rattle.kept.specs.Entries.{passed-entry}
-use Rattle.keeps_records.specs.Shape.{Shaped}
 use Rattle.keeps_records.specs.Records.{everywhere, accepted-each}
 
 -- what the fields of an act that is not refused for them have

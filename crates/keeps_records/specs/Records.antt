@@ -28,8 +28,9 @@ use Rattle.step.specs.Acts.{recorded, beginOf, wakeOf, closeOf, closedAt}
 use Rattle.acts.specs.declared.Fields.{Fields}
 use Rattle.acts.specs.Refusals.{SET, BEGIN, STEP, WAKE, startOf}
 use Rattle.acts.specs.Acts.{setWorld, setOf, endingOf, acceptedOf}
+use Rattle.kept.specs.Shape.{Shaped}
 use Rattle.kept.specs.Tests.{decided}
-use Rattle.keeps_records.specs.Shape.{Shaped, set-each}
+use Rattle.keeps_records.specs.Shape.{set-each}
 
 -- past the last thread stands an idle one
 pub everywhere : (w : World) (P : Thread → Type 0) → Shaped w → P idle → ((u : ℕ) → u < THREADS → P (threadAt w u)) → (u : ℕ) → P (threadAt w u)

@@ -29,8 +29,8 @@ use Rattle.world.specs.World.{threadAt, sleepsOn, onWord}
 use Rattle.step.specs.declared.Woken.{Woken}
 use Rattle.step.specs.Step.{roused, rouseAll, wokenOne, wakesOf, ownPlan}
 use Rattle.step.specs.Acts.{onlyOf}
+use Rattle.kept.specs.Shape.{Shaped}
 use Rattle.kept.specs.Tests.{decided, no-way}
-use Rattle.keeps_records.specs.Shape.{Shaped}
 
 -- how often a thread is to stand in the row
 abbrev pub bit : Thread → ℕ

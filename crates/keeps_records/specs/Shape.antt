@@ -1,4 +1,4 @@
--- The sizes of a world's lists and words, which its type does not say: every act that is accepted keeps them. Assumes nothing.
+-- Every accepted act keeps the sizes of a world's lists and words. Assumes nothing.
 use mathlib.Core.Path.{_≡_, refl, ap, _∙_}
 use mathlib.Core.Bool.{Bool, true, false, cond, _&&_}
 use mathlib.Core.List.{List, [], _∷_}
@@ -22,11 +22,11 @@ use Rattle.calls.specs.declared.At.{At}
 use Rattle.calls.specs.declared.Thread.{Thread}
 use Rattle.calls.specs.declared.Plan.{Plan}
 use Rattle.calls.specs.declared.Event.{Event}
-use Rattle.calls.specs.Objects.{RWLOCKS, WORDS, wordOf}
+use Rattle.calls.specs.Objects.{WORDS, wordOf}
 use Rattle.calls.specs.Plans.{decideOf}
 use Rattle.calls.specs.Positions.{operandOf}
 use Rattle.world.specs.declared.World.{World}
-use Rattle.world.specs.World.{MUTEXHOLDS, LOCKHOLDS, threadAt, wordAt, onWord}
+use Rattle.world.specs.World.{threadAt, wordAt, onWord}
 use Rattle.step.specs.declared.Acted.{Acted}
 use Rattle.step.specs.declared.Woken.{Woken}
 use Rattle.step.specs.Step.{roused, rouseAll, wakesOf, ownPlan, applyPlan, stepOf}
@@ -36,18 +36,8 @@ use Rattle.acts.specs.Refusals.{SET, BEGIN, STEP, WAKE}
 use Rattle.acts.specs.Acts.{withWord, withForgotten, setWorld, setOf, acceptedOf}
 use Rattle.sound.specs.Sound.{soundWorld}
 use Rattle.sound.proofs.Readings.{sound-clauses, sleepers-read}
+use Rattle.kept.specs.Shape.{Shaped}
 use Rattle.kept.specs.Calls.{word-wide}
-
--- every list as long as the machine has it, every word of 32 bits
-pub record Shaped (w : World) : Type 0 where
-  pub words : length (w .words) ≡ WORDS
-  pub locked : length (w .locked) ≡ MUTEXHOLDS
-  pub written : length (w .written) ≡ LOCKHOLDS
-  pub reads : length (w .reads) ≡ LOCKHOLDS
-  pub forgotten : length (w .forgotten) ≡ RWLOCKS
-  pub threads : length (w .threads) ≡ THREADS
-  pub places : length (w .sleepers .places) ≡ THREADS
-  pub wide : (k : ℕ) → wordAt w k < 2 ^ 32
 
 -- what holds of each element and of a new one holds of each with the new one stored
 pub set-each :

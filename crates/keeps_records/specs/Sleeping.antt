@@ -30,9 +30,10 @@ use Rattle.sound.proofs.Standing.{nobody-else, sleepers-of}
 use Rattle.acts.specs.declared.Fields.{Fields}
 use Rattle.acts.specs.Refusals.{SET, BEGIN, STEP, WAKE, startOf, threadExists, fieldsRefusal, beginRefusal, stepRefusal, wakeRefusal, closeRefusal, worldRefusal}
 use Rattle.acts.specs.Acts.{setWorld, setOf, endingOf, acceptedOf}
+use Rattle.kept.specs.Shape.{Shaped}
 use Rattle.kept.specs.Tests.{decided, no-way}
 use Rattle.kept.specs.Calls.{sleeping}
-use Rattle.keeps_records.specs.Shape.{Shaped, wakes-shaped, sound-count, shaped-kept}
+use Rattle.keeps_records.specs.Shape.{wakes-shaped, sound-count, shaped-kept}
 use Rattle.keeps_records.specs.Records.{everywhere, accepted-each}
 use Rattle.keeps_records.specs.Names.{fields-named}
 use Rattle.keeps_records.specs.Rows.{bit, Stand, below, stand-set, stand-woken, wakes-stand, wakes-awake, own-stand}

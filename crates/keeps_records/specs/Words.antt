@@ -32,11 +32,11 @@ use Rattle.sound.proofs.Readings.{InRange, sound-clauses, range-read, range-mak
 use Rattle.acts.specs.declared.Fields.{Fields}
 use Rattle.acts.specs.Refusals.{SET, BEGIN, STEP, WAKE}
 use Rattle.acts.specs.Acts.{setWorld, setOf, acceptedOf}
+use Rattle.kept.specs.Shape.{Shaped}
 use Rattle.kept.specs.Tests.{decided}
 use Rattle.kept.specs.Laws.{kindOf, objectOf, largest}
 use Rattle.kept.specs.Places.{operand-is}
 use Rattle.kept.specs.Calls.{word-kept}
-use Rattle.keeps_records.specs.Shape.{Shaped}
 use Rattle.keeps_records.specs.Names.{object-within, word-bound, each-passed}
 
 -- a word of another kind is another word

@@ -1,3 +1,4 @@
+pub mod Shape
 pub mod Tests
 pub mod Laws
 pub mod Places
