@@ -1,0 +1,79 @@
+-- `refusals::rows::records` is safe and ends: a turn for each row of the table. Assumes nothing.
+use Prim.Native.Nat.{_≤_, _-_}
+use lib.ListN.{length}
+use borrow.Author.Needs.{needs}
+use Rattle.refusals.proofs.rows.records.Statement.{statement}
+use Rattle.refusals.proofs.rows.records.Tie as tie
+
+abbrev Inv-loop : tie.InvT-loop
+Inv-loop section table i₀ i = i ≤ length table
+
+abbrev μ-loop : tie.MeasureT-loop
+μ-loop section table i₀ i = length table - i
+
+loop-holds : tie.Need-loop-holds Inv-loop μ-loop
+loop-holds c = search needs
+
+mul-row : tie.Need-mul-row Inv-loop μ-loop
+mul-row c = search needs
+
+shared-slice-copy-out-row : tie.Need-shared-slice-copy-out-row Inv-loop μ-loop
+shared-slice-copy-out-row c = search needs
+
+array-read-told : tie.Need-array-read-told Inv-loop μ-loop
+array-read-told c = search needs
+
+array-read-told-2 : tie.Need-array-read-told-2 Inv-loop μ-loop
+array-read-told-2 c = search needs
+
+array-read-told-3 : tie.Need-array-read-told-3 Inv-loop μ-loop
+array-read-told-3 c = search needs
+
+array-read-told-4 : tie.Need-array-read-told-4 Inv-loop μ-loop
+array-read-told-4 c = search needs
+
+array-read-told-5 : tie.Need-array-read-told-5 Inv-loop μ-loop
+array-read-told-5 c = search needs
+
+array-read-told-6 : tie.Need-array-read-told-6 Inv-loop μ-loop
+array-read-told-6 c = search needs
+
+array-read-told-7 : tie.Need-array-read-told-7 Inv-loop μ-loop
+array-read-told-7 c = search needs
+
+told-requires : tie.Need-told-requires Inv-loop μ-loop
+told-requires c κs = search needs
+
+add-i : tie.Need-add-i Inv-loop μ-loop
+add-i c = search needs
+
+loop-less : tie.Need-loop-less Inv-loop μ-loop
+loop-less c = search needs
+
+loop-again : tie.Need-loop-again Inv-loop μ-loop
+loop-again c = search needs
+
+returns : tie.Need-returns Inv-loop μ-loop
+returns c = search needs
+
+pub records-spec : {M : Type 1} → statement M
+records-spec =
+    tie.close
+    (tie.spec
+    Inv-loop
+    μ-loop
+    loop-holds
+    mul-row
+    shared-slice-copy-out-row
+    array-read-told
+    array-read-told-2
+    array-read-told-3
+    array-read-told-4
+    array-read-told-5
+    array-read-told-6
+    array-read-told-7
+    told-requires
+    add-i
+    loop-less
+    loop-again
+    returns)
