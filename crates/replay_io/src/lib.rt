@@ -70,7 +70,16 @@ fn kept(stop: Stop, left: usize) -> usize
 }
 
 // One read, the run over what is whole in the buffer, and its lines written.
-fn take_turn(input: i32, output: i32, w: World, t: Tally, number: u32, have: usize, buf: &mut [u8], out: &mut [u8]) -> Turn
+fn take_turn(
+    input: i32,
+    output: i32,
+    w: World,
+    t: Tally,
+    number: u32,
+    have: usize,
+    buf: &mut [u8],
+    out: &mut [u8],
+) -> Turn
     requires { ⌜ (have ≤ 24000) × ((65536 ≤ length (now buf)) × (65536 ≤ length (now out))) ⌝ }
     ensures { λ r. ⌜ r .have ≤ 24000 ⌝ }
 {

@@ -39,7 +39,10 @@ fn is_stop(event: Event) -> bool
         Event::Moved { woken: _ } => false,
         Event::Done { value: _, woken: _ } => true,
         Event::Slept => true,
-        Event::Panic { number: _, woken: _ } => true,
+        Event::Panic {
+            number: _,
+            woken: _,
+        } => true,
         Event::Closure => true,
         Event::Woken => true,
         Event::Closed => true,

@@ -165,10 +165,12 @@ loop-again c =
     let o = e .before .before .before in
     let a = o .before .before .before .before .args in
     let ending : endingOf (o .loop .n) (take (length (now (a .log)) - o .loop .at) (drop (o .loop .at) (now (a .log)))) ≡ 0 = sym (e .ending .ensures) ∙ d .before .before .before .before .before .if1 .left in
-    let more : (o .loop .n ≡ LAST → ⊥) = numbered (o .loop .n) _ ending in
-    (omega arith, act-goes _ _ _ _ _ _ _ _ (o .loop .inv .1) (e .before .before .loop-test .taken) _ (part (now (a .log)) (o .loop .at)) ending
-    (d .before .before .before .fields .ensures) (d .before .before .answer .ensures) _ (d .put-line2 .ensures .0) (d .put-line2 .ensures .1) (c .before .before .before .before .if3 .left) _
-    (c .before .noted2 .ensures ∙ ap (addEvent (o .loop .u) (d .before .before .answer .result .event)) (c .before .before .grants-at .ensures)))
+    let more : (o .loop .n ≡ LAST → ⊥) = numbered (o .loop .n) _ ending in (
+      omega arith,
+      act-goes _ _ _ _ _ _ _ _ (o .loop .inv .1) (e .before .before .loop-test .taken) _ (part (now (a .log)) (o .loop .at)) ending
+          (d .before .before .before .fields .ensures) (d .before .before .answer .ensures) _ (d .put-line2 .ensures .0) (d .put-line2 .ensures .1) (c .before .before .before .before .if3 .left) _
+          (c .before .noted2 .ensures ∙ ap (addEvent (o .loop .u) (d .before .before .answer .result .event)) (c .before .before .grants-at .ensures)),
+    )
 
 -- src/lib.rt:130:1
 same-length-4 : tie.Need-same-length-4 Inv-loop μ-loop

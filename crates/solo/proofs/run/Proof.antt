@@ -73,11 +73,15 @@ loop-less c = search needs
 loop-again : tie.Need-loop-again Inv-loop μ-loop
 loop-again c =
     let d = c .before .before .before .before .before .before in
-    let a = d .before .args in
-    (omega arith, (omega arith,
-    goes-on (a .budget) (d .loop .count) (d .loop .woken) (d .loop .v) (a .t) (c .before .before .before .before .step .ensures)
-    (c .before .before .before .woken .ensures) (c .before .is-stop .ensures) (c .before .before .before .before .before .loop-test .taken) (c .if1 .left)
-    ∙ d .loop .inv .1 .1))
+    let a = d .before .args in (
+      omega arith,
+      (
+        omega arith,
+        goes-on (a .budget) (d .loop .count) (d .loop .woken) (d .loop .v) (a .t) (c .before .before .before .before .step .ensures)
+            (c .before .before .before .woken .ensures) (c .before .is-stop .ensures) (c .before .before .before .before .before .loop-test .taken) (c .if1 .left)
+            ∙ d .loop .inv .1 .1,
+      ),
+    )
 
 -- src/lib.rt:69:1
 returns-2 : tie.Need-returns-2 Inv-loop μ-loop

@@ -1,0 +1,6 @@
+pub mod Parts
+pub mod Turns
+pub mod Rooms
+pub mod Flags
+pub mod Joined
+pub mod Acts
