@@ -301,7 +301,8 @@ fn begin_refusal(w: World, a: Fields) -> u8
     4
 }
 
-fn step_refusal(th: Thread, choice: u8) -> u8
+// Why a thread with this record may not be stepped; 0 where it may.
+pub fn step_refusal(th: Thread, choice: u8) -> u8
     ensures { λ r. ⌜ r ≡ stepRefusal th choice ⌝ }
 {
     let at = th.at;

@@ -1,3 +1,4 @@
 pub mod Determined
 pub mod Laws
+pub mod Quick
 pub mod Unroll

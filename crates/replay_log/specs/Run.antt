@@ -1,12 +1,16 @@
 -- The run of a log of records, ten bytes each: the lines, the world and the tally. Assumes nothing.
 use Prim.Native.Nat.{ℕ, _+_, _-_, _*_, _≤_}
 use mathlib.Core.Path.{_≡_}
-use mathlib.Core.Bool.{Bool, true, false, cond, _&&_}
+use mathlib.Core.Bool.{Bool, true, false, cond, not, _&&_}
 use mathlib.Core.List.{List, [], _∷_, _++_}
 use lib.Dec.{eqb, ltb, leb}
 use lib.ListN.{length, getD, take, drop}
+use Rattle.queue.specs.Row.{THREADS}
 use Rattle.calls.specs.declared.Event.{Event}
 use Rattle.calls.specs.declared.Event.the-variants as E
+use Rattle.calls.specs.declared.Thread.{Thread}
+use Rattle.calls.specs.Objects.{WORDS}
+use Rattle.calls.specs.Positions.{mayWake}
 use Rattle.tally.specs.declared.Tally.{Tally}
 use Rattle.tally.specs.Tally.{addEvent, grantsOf}
 use Rattle.io.specs.Counts.{Counts}
@@ -17,6 +21,7 @@ use Rattle.step.specs.declared.Acted.{Acted}
 use Rattle.step.specs.Step.{refused}
 use Rattle.sound.specs.Sound.{soundWorld}
 use Rattle.acts.specs.declared.Fields.{Fields}
+use Rattle.acts.specs.Refusals.{STEP, fieldsRefusal, stepRefusal}
 use Rattle.acts.specs.Acts.{actedOf}
 use Rattle.replay_log.specs.declared.Stop.{Stop}
 use Rattle.replay_log.specs.declared.Stop.the-variants as S
@@ -160,3 +165,9 @@ movedOf buf from n = take n (drop from buf) ++ drop n buf
 
 unfoldable pub carriedOf : List ℕ → ℕ → ℕ → List ℕ
 carriedOf buf from end = cond (leb end (length buf)) (movedOf buf from (end - from)) buf
+
+-- a step that is accepted and wakes nobody, of a thread with this record about word k
+unfoldable pub quickOf : Bool → Fields → Thread → ℕ → Bool
+quickOf sound a th k =
+    sound && eqb (a .act) STEP && ltb (a .thread) THREADS && eqb (fieldsRefusal a) 0 && eqb (stepRefusal th (a .choice)) 0
+    && not (mayWake (th .at)) && ltb k WORDS

@@ -3,21 +3,24 @@
 use acts::Fields;
 use calls::Event;
 use calls::Thread;
+use calls::WORDS;
 use queue::THREADS;
 use step::Acted;
 use tally::Tally;
 use world::World;
 ghost use mathlib.Core.Path.{_≡_};
 ghost use mathlib.Core.Bool.{Bool};
-ghost use Prim.Native.Nat.{_+_, _-_, _≤_, _<_, min};
+ghost use Prim.Native.Nat.{_+_, _-_, _≤_, _<_, _%_, min};
 ghost use lib.ListN.{length, take, drop};
 ghost use Rattle.io.specs.Counts.{Counts};
+ghost use Rattle.queue.specs.Row.{THREADS};
+ghost use Rattle.calls.specs.Objects.{WORDS};
 ghost use Rattle.tally.specs.Tally.{grantsOf};
 ghost use Rattle.calls.specs.Plans.{idle};
 ghost use lib.ListN.{getD};
 ghost use Rattle.sound.specs.Sound.{soundWorld};
 ghost use Rattle.lines.specs.Lines.{layOf};
-ghost use Rattle.replay_log.specs.Run.{fieldsOf, markOf, endingOf, answerOf, runOf, stateOf, Answers, carriedOf, finishOf, finishedLine, finishedOf};
+ghost use Rattle.replay_log.specs.Run.{fieldsOf, markOf, endingOf, answerOf, runOf, stateOf, Answers, carriedOf, quickOf, finishOf, finishedLine, finishedOf};
 
 // A record is so many bytes.
 pub const RECORD: usize = 10;
@@ -124,6 +127,54 @@ fn grants_at(threads: [Thread; THREADS], t: u8) -> bool
     tally::grants(at)
 }
 
+// A thread's place in a table of records; that of a thread that exists is its number.
+fn thread_place(t: u8) -> usize
+    ensures { λ r. ⌜ (r ≡ t % THREADS) × (r < THREADS) ⌝ }
+{
+    (t as usize) % THREADS
+}
+
+// A word's place in the row; that of a word that exists is its number.
+fn word_place(k: usize) -> usize
+    ensures { λ r. ⌜ (r ≡ k % WORDS) × (r < WORDS) ⌝ }
+{
+    k % WORDS
+}
+
+// Whether a record is a step of a thread with this record, about word k, that is accepted and wakes nobody:
+// it is run in place.
+fn is_quick(sound: bool, a: Fields, th: Thread, k: usize) -> bool
+    ensures { λ r. ⌜ r ≡ quickOf sound a th k ⌝ }
+{
+    if sound {
+        let step = a.act == acts::STEP;
+        if step {
+            let there = (a.thread as usize) < THREADS;
+            if there {
+                let refusal = acts::fields_refusal(a);
+                let good = refusal == 0;
+                if good {
+                    let number = acts::step_refusal(th, a.choice);
+                    let allowed = number == 0;
+                    if allowed {
+                        let at = th.at;
+                        let wakes = calls::may_wake(at);
+                        if wakes {
+                            return false;
+                        }
+                        return k < WORDS;
+                    }
+                    return false;
+                }
+                return false;
+            }
+            return false;
+        }
+        return false;
+    }
+    false
+}
+
 // Runs the records that a part of a log begins with, from the world, the tally and the number given, and
 // lays a line for each into the buffer. A world whose parts disagree has every record refused.
 pub fn run(w: World, t: Tally, number: u32, log: &[u8], out: &mut [u8]) -> Ran
@@ -162,6 +213,57 @@ pub fn run(w: World, t: Tally, number: u32, log: &[u8], out: &mut [u8]) -> Ran
             };
         }
         let a = fields(&log[at..]);
+        let thread = a.thread;
+        let i = thread_place(thread);
+        let th = v.threads[i];
+        let stands = th.at;
+        let k = calls::operand(thread, stands);
+        let quick = is_quick(sound, a, th, k);
+        if quick {
+            let j = word_place(k);
+            let word = v.words[j];
+            let fails = a.choice == 1;
+            let p = calls::decide(stands, fails, word, false);
+            let event = p.event;
+            let told = calls::tell(event, 0);
+            let next = lines::put_line(out, end, n, told);
+            if next == end {
+                return Ran {
+                    world: v,
+                    tally: u,
+                    number: n,
+                    used: at,
+                    count: end,
+                    stop: Stop::Room,
+                };
+            }
+            let grant = tally::grants(stands);
+            let hold = p.hold;
+            let object = p.object;
+            let record = p.next;
+            let m = step::mutex_slot(thread, object);
+            let l = step::lock_slot(thread, object);
+            let locked = v.locked[m];
+            let written = v.written[l];
+            let reads = v.reads[l];
+            let row = v.sleepers;
+            let locked_now = step::locked_after(hold, locked);
+            let written_now = step::written_after(hold, written);
+            let reads_now = step::reads_after(hold, reads);
+            let row_now = step::slept_row(record.asleep, row, thread);
+            v.words[j] = p.word;
+            v.locked[m] = locked_now;
+            v.written[l] = written_now;
+            v.reads[l] = reads_now;
+            v.threads[i] = record;
+            v.sleepers = row_now;
+            v.started = true;
+            u = tally::noted(u, told, grant);
+            n = n + 1;
+            at = after;
+            end = next;
+            continue;
+        }
         let r = answer(sound, v, a);
         let event = r.event;
         let next = lines::put_line(out, end, n, event);

@@ -218,7 +218,8 @@ fn wakes(w: World, k: usize, place: usize, wake: Wake) -> Woken
     }
 }
 
-fn locked_after(hold: Hold, b: bool) -> bool
+// A mutex hold after a step; so a write hold and a count of reads.
+pub fn locked_after(hold: Hold, b: bool) -> bool
     ensures { λ r. ⌜ r ≡ lockedAfter hold b ⌝ }
 {
     match hold {
@@ -233,7 +234,7 @@ fn locked_after(hold: Hold, b: bool) -> bool
     }
 }
 
-fn written_after(hold: Hold, b: bool) -> bool
+pub fn written_after(hold: Hold, b: bool) -> bool
     ensures { λ r. ⌜ r ≡ writtenAfter hold b ⌝ }
 {
     match hold {
@@ -248,7 +249,7 @@ fn written_after(hold: Hold, b: bool) -> bool
     }
 }
 
-fn reads_after(hold: Hold, n: u32) -> u32
+pub fn reads_after(hold: Hold, n: u32) -> u32
     ensures { λ r. ⌜ r ≡ readsAfter hold n ⌝ }
 {
     match hold {
@@ -263,20 +264,21 @@ fn reads_after(hold: Hold, n: u32) -> u32
     }
 }
 
-fn mutex_slot(t: u8, object: u8) -> usize
+// The place of thread t's hold of a mutex in its table; so of an RwLock.
+pub fn mutex_slot(t: u8, object: u8) -> usize
     ensures { λ r. ⌜ r ≡ mutexSlot t object ⌝ }
 {
     ((t as usize) * MUTEXES + (object as usize)) % MUTEX_HOLDS
 }
 
-fn lock_slot(t: u8, object: u8) -> usize
+pub fn lock_slot(t: u8, object: u8) -> usize
     ensures { λ r. ⌜ r ≡ lockSlot t object ⌝ }
 {
     ((t as usize) * RWLOCKS + (object as usize)) % LOCK_HOLDS
 }
 
 // The row with t behind the others, where it fell asleep.
-fn slept_row(sleeps: bool, row: Row, t: u8) -> Row
+pub fn slept_row(sleeps: bool, row: Row, t: u8) -> Row
     ensures { λ r. ⌜ r ≡ sleptRow sleeps row t ⌝ }
 {
     if sleeps {
