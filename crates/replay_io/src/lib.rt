@@ -49,11 +49,14 @@ fn say(words: &[u8]) {
     io::write_all(STDERR_FILENO, words);
 }
 
-// Where a run leads: on to the next read, or to the end.
+// Where a run leads: on to the next read, or to the end. A run of CHUNK bytes has room for its lines.
 fn led(stop: Stop) -> Next {
     match stop {
         Stop::Short => Next::Read,
-        Stop::Room => Next::Fail,
+        Stop::Room => {
+            say(b"replay: a line has no room\n");
+            Next::Fail
+        }
         Stop::Ended { number: _ } => Next::Finish,
     }
 }
