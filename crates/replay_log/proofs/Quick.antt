@@ -1,4 +1,4 @@
--- A step that wakes nobody, stored in place, is the act's answer. Assumes nothing.
+-- A step that wakes nobody, or a begin, stored in place, is the act's answer. Assumes nothing.
 use Prim.Native.Nat.{ℕ, _%_, _<_}
 use native.Mathlib.Omega.{arith}
 use mathlib.Core.Path.{_≡_, refl, sym, ap, _∙_}
@@ -10,24 +10,29 @@ use borrow.Author.Tests.{eqb-true, ltb-true}
 use Rattle.words.specs.declared.Wake.the-variants as W
 use Rattle.queue.specs.declared.Row.{Row}
 use Rattle.queue.specs.Row.{THREADS, placeOf}
+use Rattle.calls.specs.declared.At.{At}
 use Rattle.calls.specs.declared.Event.{Event}
+use Rattle.calls.specs.declared.Event.the-variants as E
+use Rattle.calls.specs.declared.Need.{Need}
 use Rattle.calls.specs.declared.Thread.{Thread}
 use Rattle.calls.specs.declared.Plan.{Plan}
 use Rattle.calls.specs.Events.{tellOf}
 use Rattle.calls.specs.Objects.{WORDS}
-use Rattle.calls.specs.Plans.{idle, decideOf}
-use Rattle.calls.specs.Positions.{operandOf, mayWake}
+use Rattle.calls.specs.Plans.{idle, awake, decideOf}
+use Rattle.calls.specs.Positions.{operandOf, mayWake, needOf}
 use Rattle.calls.proofs.Laws.{calm, quiet}
 use Rattle.world.specs.declared.World.{World}
 use Rattle.world.specs.World.{mutexSlot, lockSlot, threadAt, onWord}
 use Rattle.step.specs.declared.Acted.{Acted}
 use Rattle.step.specs.declared.Woken.{Woken}
 use Rattle.step.specs.Step.{lockedAfter, writtenAfter, readsAfter, sleptRow, wakesOf, applyPlan, stepOf}
+use Rattle.step.specs.Acts.{recorded, beginOf}
 use Rattle.step.proofs.Laws.{applied, stepped}
+use Rattle.sound.specs.Sound.{isIdle, hasHold}
 use Rattle.acts.specs.declared.Fields.{Fields}
-use Rattle.acts.specs.Refusals.{SET, BEGIN, STEP, fieldsRefusal, stepRefusal, worldRefusal}
+use Rattle.acts.specs.Refusals.{SET, BEGIN, STEP, startOf, fieldsRefusal, beginRefusal, stepRefusal, worldRefusal}
 use Rattle.acts.specs.Acts.{acceptedOf, actedOf}
-use Rattle.replay_log.specs.Run.{answerOf, quickOf}
+use Rattle.replay_log.specs.Run.{answerOf, quickOf, quickBegin}
 
 split : (a b : Bool) → a && b ≡ true → (a ≡ true) × (b ≡ true)
 split true b e = (refl, e)
@@ -93,13 +98,16 @@ unfolding wakesOf
 none-woken w k place p e = rw e refl
 
 -- the record that the code read is the thread's
+own-record : (w : World) (a : Fields) (th : Thread) {i : ℕ} → ltb (a .thread) THREADS ≡ true → i ≡ a .thread % THREADS → th ≡ getD (w .threads) i idle → (i ≡ a .thread) × (th ≡ threadAt w (a .thread))
+own-record w a th {i} t ei eth =
+    let small : a .thread < THREADS = ltb-true (a .thread) THREADS t in
+    let ti : i ≡ a .thread = ei ∙ omega arith in
+    (ti, eth ∙ ap (λ (x : ℕ). getD (w .threads) x idle) ti)
+
 pub quick-thread :
     (sound : Bool) (w : World) (a : Fields) (th : Thread) (k : ℕ) {i : ℕ} → quickOf sound a th k ≡ true → i ≡ a .thread % THREADS →
     th ≡ getD (w .threads) i idle → th ≡ threadAt w (a .thread)
-quick-thread sound w a th k {i} q ei eth =
-    let small : a .thread < THREADS = ltb-true (a .thread) THREADS (found sound a th k q .there) in
-    let ti : i ≡ a .thread = ei ∙ omega arith in
-    eth ∙ ap (λ (x : ℕ). getD (w .threads) x idle) ti
+quick-thread sound w a th k q ei eth = own-record w a th (found sound a th k q .there) ei eth .1
 
 -- the stores of a quick step, each as what the code computed
 pub quick-step :
@@ -142,3 +150,85 @@ quick-step sound w a th k {i} {j} {m} {l} {word} {fails} {p} {told} {locked} {wr
     (rw (elo, em) refl) (rw (ewr, el) refl) (rw (er, el) refl) (ap (λ (x : ℕ). set (w .threads) x (p .next)) ti) es
     ∙ (stepped w (a .thread) fails th k place word p (applyPlan w (a .thread) k place p) at ek (f .word) refl wordAt plan refl
     ∙ (ap (stepOf w (a .thread)) ef ∙ sym (step-answered sound w a (f .sounds) (f .act) (f .fields) allowed)))
+
+-- what the test of a quick begin found
+record Ready (sound : Bool) (a : Fields) (th : Thread) (held : Bool) : Type 0 where
+  sounds : sound ≡ true
+  act : eqb (a .act) BEGIN ≡ true
+  there : ltb (a .thread) THREADS ≡ true
+  fields : eqb (fieldsRefusal a) 0 ≡ true
+  rests : isIdle (th .at) ≡ true
+  holds : held ≡ true
+
+ready : (sound : Bool) (a : Fields) (th : Thread) (held : Bool) → quickBegin sound a th held ≡ true → Ready sound a th held
+unfolding quickBegin
+ready sound a th held e =
+    let e5 : ((((sound && eqb (a .act) BEGIN) && ltb (a .thread) THREADS) && eqb (fieldsRefusal a) 0) && isIdle (th .at) ≡ true) × (held ≡ true) = split ((((sound && eqb (a .act) BEGIN) && ltb (a .thread) THREADS) && eqb (fieldsRefusal a) 0) && isIdle (th .at)) (held) e in
+    let e4 : (((sound && eqb (a .act) BEGIN) && ltb (a .thread) THREADS) && eqb (fieldsRefusal a) 0 ≡ true) × (isIdle (th .at) ≡ true) = split (((sound && eqb (a .act) BEGIN) && ltb (a .thread) THREADS) && eqb (fieldsRefusal a) 0) (isIdle (th .at)) (e5 .0) in
+    let e3 : ((sound && eqb (a .act) BEGIN) && ltb (a .thread) THREADS ≡ true) × (eqb (fieldsRefusal a) 0 ≡ true) = split ((sound && eqb (a .act) BEGIN) && ltb (a .thread) THREADS) (eqb (fieldsRefusal a) 0) (e4 .0) in
+    let e2 : (sound && eqb (a .act) BEGIN ≡ true) × (ltb (a .thread) THREADS ≡ true) = split (sound && eqb (a .act) BEGIN) (ltb (a .thread) THREADS) (e3 .0) in
+    let e1 : (sound ≡ true) × (eqb (a .act) BEGIN ≡ true) = split (sound) (eqb (a .act) BEGIN) (e2 .0) in
+    record { sounds = e1 .0; act = e1 .1; there = e2 .1; fields = e3 .1; rests = e4 .1; holds = e5 .1 }
+
+pub begin-thread :
+    (sound : Bool) (w : World) (a : Fields) (th : Thread) (held : Bool) {i : ℕ} → quickBegin sound a th held ≡ true → i ≡ a .thread % THREADS →
+    th ≡ getD (w .threads) i idle → th ≡ threadAt w (a .thread)
+begin-thread sound w a th held q ei eth = own-record w a th (ready sound a th held q .there) ei eth .1
+
+module _ (w : World) (a : Fields) (e : eqb (a .act) BEGIN ≡ true) where
+  begin-not-set : eqb (a .act) SET ≡ false
+  begin-not-set = ap (λ (x : ℕ). eqb x SET) (eqb-true (a .act) BEGIN e)
+
+  begin-accepted : acceptedOf w a ≡ beginOf w (a .thread) (startOf a)
+  unfolding acceptedOf
+  begin-accepted = rw (begin-not-set, e) refl
+
+  begin-refused : worldRefusal w a ≡ beginRefusal w a
+  unfolding worldRefusal
+  begin-refused = rw (begin-not-set, e) refl
+
+not-refused :
+    (w : World) (a : Fields) → isIdle (threadAt w (a .thread) .at) ≡ true →
+    hasHold (w .locked) (w .written) (w .reads) (a .thread) (needOf (startOf a)) ≡ true → beginRefusal w a ≡ 0
+unfolding beginRefusal
+not-refused w a r h = rw (r, h) refl
+
+begin-answered :
+    (sound : Bool) (w : World) (a : Fields) → sound ≡ true → eqb (a .act) BEGIN ≡ true → eqb (fieldsRefusal a) 0 ≡ true →
+    isIdle (threadAt w (a .thread) .at) ≡ true → hasHold (w .locked) (w .written) (w .reads) (a .thread) (needOf (startOf a)) ≡ true →
+    answerOf sound w a ≡ beginOf w (a .thread) (startOf a)
+unfolding answerOf actedOf
+begin-answered sound w a s e f r h =
+    let g : eqb (worldRefusal w a) 0 ≡ true = ap (λ (n : ℕ). eqb n 0) (begin-refused w a e ∙ not-refused w a r h) in
+    rw (s, f, g) (begin-accepted w a e)
+
+-- the stores of a quick begin, each as what the code computed
+pub begin-step :
+    (sound : Bool) (w : World) (a : Fields) (th next : Thread) (held : Bool) {i : ℕ} {start : At} {need : Need} → quickBegin sound a th held ≡ true →
+    i ≡ a .thread % THREADS → th ≡ getD (w .threads) i idle → start ≡ startOf a → need ≡ needOf start →
+    held ≡ hasHold (w .locked) (w .written) (w .reads) (a .thread) need → next ≡ awake start →
+    _≡_ {A = Acted}
+    (record {
+      event = E.Begun;
+      world = record {
+        words = w .words;
+        locked = w .locked;
+        written = w .written;
+        reads = w .reads;
+        forgotten = w .forgotten;
+        threads = set (w .threads) i next;
+        sleepers = w .sleepers;
+        started = true;
+      };
+    })
+    (answerOf sound w a)
+unfolding beginOf recorded
+begin-step sound w a th next held {i} {start} {need} q ei eth es en eh ex =
+    let f : Ready sound a th held = ready sound a th held q in
+    let own : (i ≡ a .thread) × (th ≡ threadAt w (a .thread)) = own-record w a th (f .there) ei eth in
+    let rests : isIdle (threadAt w (a .thread) .at) ≡ true = ap (λ (x : Thread). isIdle (x .at)) (sym (own .1)) ∙ f .rests in
+    let needs : need ≡ needOf (startOf a) = en ∙ ap needOf es in
+    let holds : hasHold (w .locked) (w .written) (w .reads) (a .thread) (needOf (startOf a)) ≡ true =
+    ap (hasHold (w .locked) (w .written) (w .reads) (a .thread)) (sym needs) ∙ (sym eh ∙ f .holds) in
+    let record-is : next ≡ awake (startOf a) = ex ∙ ap awake es in
+    rw (own .0, record-is) (sym (begin-answered sound w a (f .sounds) (f .act) (f .fields) rests holds))

@@ -19,9 +19,9 @@ use Rattle.world.specs.declared.World.{World}
 use Rattle.world.specs.World.{threadAt}
 use Rattle.step.specs.declared.Acted.{Acted}
 use Rattle.step.specs.Step.{refused}
-use Rattle.sound.specs.Sound.{soundWorld}
+use Rattle.sound.specs.Sound.{soundWorld, isIdle}
 use Rattle.acts.specs.declared.Fields.{Fields}
-use Rattle.acts.specs.Refusals.{STEP, fieldsRefusal, stepRefusal}
+use Rattle.acts.specs.Refusals.{BEGIN, STEP, fieldsRefusal, stepRefusal}
 use Rattle.acts.specs.Acts.{actedOf}
 use Rattle.replay_log.specs.declared.Stop.{Stop}
 use Rattle.replay_log.specs.declared.Stop.the-variants as S
@@ -171,3 +171,8 @@ unfoldable pub quickOf : Bool → Fields → Thread → ℕ → Bool
 quickOf sound a th k =
     sound && eqb (a .act) STEP && ltb (a .thread) THREADS && eqb (fieldsRefusal a) 0 && eqb (stepRefusal th (a .choice)) 0
     && not (mayWake (th .at)) && ltb k WORDS
+
+-- a begin that is accepted, of a thread with this record; `held`: whether the hold that the call needs is there
+unfoldable pub quickBegin : Bool → Fields → Thread → Bool → Bool
+quickBegin sound a th held =
+    sound && eqb (a .act) BEGIN && ltb (a .thread) THREADS && eqb (fieldsRefusal a) 0 && isIdle (th .at) && held

@@ -1,6 +1,7 @@
 // The run of a log: records of ten bytes, one line for each, and a tally. A log can be run in parts, each
 // from the world, the tally and the number that the part before it reached.
 use acts::Fields;
+use calls::At;
 use calls::Event;
 use calls::Thread;
 use calls::WORDS;
@@ -17,10 +18,12 @@ ghost use Rattle.queue.specs.Row.{THREADS};
 ghost use Rattle.calls.specs.Objects.{WORDS};
 ghost use Rattle.tally.specs.Tally.{grantsOf};
 ghost use Rattle.calls.specs.Plans.{idle};
+ghost use Rattle.calls.specs.Plans.{awake as standsAt};
+ghost use Rattle.acts.specs.Refusals.{startOf};
 ghost use lib.ListN.{getD};
 ghost use Rattle.sound.specs.Sound.{soundWorld};
 ghost use Rattle.lines.specs.Lines.{layOf};
-ghost use Rattle.replay_log.specs.Run.{fieldsOf, markOf, endingOf, answerOf, runOf, stateOf, Answers, carriedOf, quickOf, finishOf, finishedLine, finishedOf};
+ghost use Rattle.replay_log.specs.Run.{fieldsOf, markOf, endingOf, answerOf, runOf, stateOf, Answers, carriedOf, quickOf, quickBegin, finishOf, finishedLine, finishedOf};
 
 // A record is so many bytes.
 pub const RECORD: usize = 10;
@@ -175,6 +178,52 @@ fn is_quick(sound: bool, a: Fields, th: Thread, k: usize) -> bool
     false
 }
 
+// Where a begin would start.
+fn start(a: Fields) -> At
+    ensures { λ r. ⌜ r ≡ startOf a ⌝ }
+{
+    calls::entry(a.choice, a.object, (a.value % 256) as u8)
+}
+
+// The record of a thread that stands there, awake.
+fn awake(at: At) -> Thread
+    ensures { λ r. ⌜ r ≡ standsAt at ⌝ }
+{
+    Thread {
+        at: at,
+        asleep: false,
+    }
+}
+
+// Whether a record is a begin of a thread with this record that is accepted, where the hold that the call
+// needs is there: it is run in place too.
+fn is_begin(sound: bool, a: Fields, th: Thread, held: bool) -> bool
+    ensures { λ r. ⌜ r ≡ quickBegin sound a th held ⌝ }
+{
+    if sound {
+        let begin = a.act == acts::BEGIN;
+        if begin {
+            let there = (a.thread as usize) < THREADS;
+            if there {
+                let refusal = acts::fields_refusal(a);
+                let good = refusal == 0;
+                if good {
+                    let at = th.at;
+                    let idle = sound::is_idle(at);
+                    if idle {
+                        return held;
+                    }
+                    return false;
+                }
+                return false;
+            }
+            return false;
+        }
+        return false;
+    }
+    false
+}
+
 // Runs the records that a part of a log begins with, from the world, the tally and the number given, and
 // lays a line for each into the buffer. A world whose parts disagree has every record refused.
 pub fn run(w: World, t: Tally, number: u32, log: &[u8], out: &mut [u8]) -> Ran
@@ -259,6 +308,35 @@ pub fn run(w: World, t: Tally, number: u32, log: &[u8], out: &mut [u8]) -> Ran
             v.sleepers = row_now;
             v.started = true;
             u = tally::noted(u, told, grant);
+            n = n + 1;
+            at = after;
+            end = next;
+            continue;
+        }
+        let first = start(a);
+        let need = calls::needs(first);
+        let all_locked = v.locked;
+        let all_written = v.written;
+        let all_reads = v.reads;
+        let held = sound::has_hold(all_locked, all_written, all_reads, thread, need);
+        let begins = is_begin(sound, a, th, held);
+        if begins {
+            let next = lines::put_line(out, end, n, Event::Begun);
+            if next == end {
+                return Ran {
+                    world: v,
+                    tally: u,
+                    number: n,
+                    used: at,
+                    count: end,
+                    stop: Stop::Room,
+                };
+            }
+            let grant = tally::grants(stands);
+            let record = awake(first);
+            v.threads[i] = record;
+            v.started = true;
+            u = tally::noted(u, Event::Begun, grant);
             n = n + 1;
             at = after;
             end = next;
