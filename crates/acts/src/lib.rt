@@ -1,5 +1,7 @@
 // The five acts on a world, with their refusals: any act on any world value gets an answer. A refused act
 // has its number, by document 01's order, and changes nothing.
+#![tactic(auto)]
+
 ghost use Rattle.std.specs.Prelude.{◌≡◌, set};
 ghost use Rattle.step.specs.Step.{refused};
 ghost use Rattle.acts.specs.Refusals.{choices_of, set_unnamed_zero, object_if_named, value_if_named, begin_unnamed_zero, both_zero, unnamed_zero, set_exists, wait_exists, call_exists, object_exists, thread_exists, fields_refusal, start_of, set_refusal, begin_refusal, step_refusal, wake_refusal, close_refusal, world_refusal};

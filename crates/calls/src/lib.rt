@@ -1,6 +1,7 @@
 // Calls over the five modules: where a thread stands in which call on which object, what its next step
 // does, and what an act answers. A module's step becomes the call's here: its end the call's end, its word
 // a number in the row of all words.
+#![tactic(auto)]
 ghost use Rattle.std.specs.Prelude.{◌≡◌, cond};
 ghost use Rattle.calls.specs.Objects.{size_of, base_of, word_of};
 ghost use Rattle.calls.specs.Events.{value_of, woken_of, tell_of};

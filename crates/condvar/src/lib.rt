@@ -1,5 +1,7 @@
 // std's futex condvar (condvar/futex.rs) as a step machine: a step runs one atomic operation or one
 // futex call, then the local code up to the next one. A wait's mutex part is the mutex's own steps.
+#![tactic(auto, unfolding(crate::specs::Condvar::after_wait, crate::specs::Condvar::decide_of, crate::specs::Condvar::ends, crate::specs::Condvar::entry_of, crate::specs::Condvar::may_wake, crate::specs::Condvar::moves, crate::specs::Condvar::mutex_of, crate::specs::Condvar::needs_of, crate::specs::Condvar::notify_may_wake, crate::specs::Condvar::notify_of, crate::specs::Condvar::object_of, crate::specs::Condvar::operand_of, crate::specs::Condvar::passed_of, crate::specs::Condvar::relock_step, crate::specs::Condvar::sleeps, crate::specs::Condvar::unlock_step, crate::specs::Condvar::wait_after_wait, crate::specs::Condvar::wait_may_wake, crate::specs::Condvar::wait_needs, crate::specs::Condvar::wait_object, crate::specs::Condvar::wait_of, crate::specs::Condvar::wait_operand, crate::specs::Condvar::wait_passed, crate::specs::Condvar::wait_waits, crate::specs::Condvar::waits_of, crate::specs::Condvar::weak_next))]
+
 ghost use Rattle.std.specs.Prelude.{◌≡◌};
 ghost use Rattle.condvar.specs.Condvar.{entry_of, moves, sleeps, ends, unlock_step, relock_step, wait_of, notify_of, decide_of, wait_after_wait, after_wait, wait_operand, operand_of, wait_object, object_of, mutex_of, weak_next, wait_passed, passed_of, wait_needs, needs_of, wait_waits, waits_of, wait_may_wake, notify_may_wake, may_wake};
 

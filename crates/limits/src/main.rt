@@ -1,6 +1,7 @@
 // Runs the library where no file of records comes to: the last numbers, a buffer without room, a start past
 // the end, a world whose parts disagree, and counts at their largest. The stored output was worked out by
 // hand from document 01.
+#![tactic(auto)]
 ghost use Rattle.std.specs.Prelude.{◌≤◌, ◌≡◌, length};
 
 use libc::STDOUT_FILENO;

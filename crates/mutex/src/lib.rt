@@ -1,5 +1,7 @@
 // std's futex mutex (mutex/futex.rs) as a step machine: a step runs one atomic operation or one futex
 // call, then the local code up to the next one.
+#![tactic(auto, unfolding(crate::specs::Mutex::after_wait, crate::specs::Mutex::contended, crate::specs::Mutex::decide_of, crate::specs::Mutex::entry_of, crate::specs::Mutex::lock_after_wait, crate::specs::Mutex::lock_of, crate::specs::Mutex::lock_passed, crate::specs::Mutex::lock_step, crate::specs::Mutex::lock_waits, crate::specs::Mutex::may_wake, crate::specs::Mutex::moves, crate::specs::Mutex::needs_of, crate::specs::Mutex::operand_of, crate::specs::Mutex::passed_of, crate::specs::Mutex::sleeps, crate::specs::Mutex::spun, crate::specs::Mutex::takes, crate::specs::Mutex::try_lock_of, crate::specs::Mutex::unlock_may_wake, crate::specs::Mutex::unlock_needs, crate::specs::Mutex::unlock_of, crate::specs::Mutex::unlock_step, crate::specs::Mutex::waits_of, crate::specs::Mutex::weak_next))]
+
 ghost use Rattle.std.specs.Prelude.{◌≡◌};
 ghost use Rattle.mutex.specs.Mutex.{entry_of, lock_of, contended, spun, try_lock_of, unlock_of, decide_of, lock_after_wait, after_wait, operand_of, weak_next, lock_passed, passed_of, unlock_needs, needs_of, lock_waits, waits_of, unlock_may_wake, may_wake, moves, sleeps, takes, lock_step, unlock_step};
 

@@ -1,6 +1,7 @@
 // std's futex Once (once/futex.rs) as a step machine: a step runs one atomic operation or one futex
 // call, then the local code up to the next one. Dropping the CompletionGuard is the positions after the
 // closure.
+#![tactic(auto)]
 ghost use Rattle.std.specs.Prelude.{◌≡◌};
 ghost use Rattle.words.specs.Once.{QUEUED};
 ghost use Rattle.once.specs.Once.{entry_of, moves, sleeps, ends, panics, enters, queues, call_top, wait_top, drops_to, is_panicked, finishes, call_after_wait, wait_after_wait, call_of, wait_of, is_completed_of, decide_of, close_of, call_in_closure, in_closure, after_wait, operand_of, call_weak_next, wait_weak_next, weak_next, running_passed, call_passed, queued_passed, wait_passed, passed_of, needs_of, call_waits, wait_waits, waits_of, call_may_wake, may_wake};

@@ -1,5 +1,6 @@
 // Reads cases from standard input, each a world and what is to be done to it, and writes a line for each.
 // docs/PROBE.md has the layout and the lines.
+#![tactic(auto)]
 mod build;
 mod input;
 mod layout;

@@ -1,5 +1,6 @@
 // What is promised of the machine, on one page: each function is the library's, with what the theorems say of
 // it. None asks for anything: a caller's types are enough.
+#![tactic(auto)]
 ghost use Rattle.std.specs.Prelude.{◌≡◌, true, false, ℕ, ◌^◌, ◌<◌, length};
 ghost use Rattle.calls.specs.declared.Event.TheVariants as E;
 ghost use Rattle.sound.specs.Sound.{sound_world};

@@ -1,6 +1,8 @@
 // One row of the threads that sleep, by number, in the order in which they fell asleep: the wait
 // queues of futex(2), all in one. Who sleeps on which word is for the caller to say, by a flag for each
 // thread. A row that is handed in may be any value of its type: every function has an answer for it.
+#![tactic(auto, unfolding(crate::specs::Row::is_tidy, crate::specs::Row::occ, crate::specs::Row::passing, crate::specs::Row::place_of, crate::specs::Row::push_of, crate::specs::Row::pushed, crate::specs::Row::row_of, crate::specs::Row::take_out_of, crate::specs::Row::taken_out, crate::specs::Row::without_of))]
+
 ghost use Rattle.std.specs.Prelude.{min, ◌<◌, cond, ◌≡◌, eqb};
 ghost use Rattle.queue.specs.Row.{THREADS, sleepers, is_wanted, empty_row, push_of, removed, refused, take_out_of, place_of, without_of, occ, is_tidy};
 

@@ -1,6 +1,7 @@
 // Feeds `act` with worlds, sound and forged, and prints for each whether it is sound and what `act` answers. The
 // file `stdout`, to which that is held, was worked out by hand from document 01, and no number in it was taken from
 // this program.
+#![tactic(auto)]
 mod cases;
 mod forge;
 mod holds;

@@ -1,5 +1,6 @@
 // The replay over open files: records are read from one, and a line for each and the tally are written to
 // another. Where reading or writing fails it says so on standard error and ends, with no tally.
+#![tactic(auto)]
 ghost use Rattle.std.specs.Prelude.{◌≤◌, ◌≡◌, length};
 
 use libc::STDERR_FILENO;

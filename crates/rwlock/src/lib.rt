@@ -1,5 +1,6 @@
 // std's futex RwLock (rwlock/futex.rs) as a step machine: a step runs one atomic operation or one futex
 // call, then the local code up to the next one.
+#![tactic(auto)]
 ghost use Rattle.std.specs.Prelude.{◌≡◌, false};
 ghost use Rattle.words.specs.Atomic.{SPINS};
 ghost use Rattle.words.specs.declared.Hold.TheVariants.{Same};

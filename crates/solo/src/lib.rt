@@ -1,5 +1,6 @@
 // A thread stepped alone, by plain steps under a budget, until its call ends, sleeps, panics or enters a
 // closure. Soundness is tested once: every step keeps it (crates/keeps, `solo-is-acts`).
+#![tactic(auto)]
 ghost use Rattle.std.specs.Prelude.{◌≡◌, not};
 ghost use Rattle.calls.specs.Events.{goes_on};
 ghost use Rattle.solo.specs.Run.{run_from, solo_of};

@@ -1,5 +1,6 @@
 // Which worlds are sound, as a test for any world value, and each clause of it as a test of its own: no
 // clause leans on another, so that a world which is refused can be asked what is wrong with it.
+#![tactic(auto)]
 ghost use Rattle.std.specs.Prelude.{◌+◌, ◌<◌, ◌≡◌, cond, get_or};
 ghost use Rattle.sound.specs.Sound.{word_for, name_exists, names_exist, value_passed, values_passed, is_asleep, stands_as, sleeper_stands, every_sleeper_stands, asleep_count, sleepers_stand, mutex_in_range, mutexes_in_range, once_in_range, onces_in_range, words_in_range, mutex_holders, mutex_agrees, mutexes_agree, writers, reads_held, count_agrees, lock_agrees, locks_agree, need_held, needs_held, thread_rests, threads_rest, nobody_sleeps, mutex_rests, mutexes_rest, state_is_set, lock_is_set, locks_are_set, once_is_set, onces_are_set, parker_rests, parkers_rest, set_alone, started_or_set, sound_world};
 

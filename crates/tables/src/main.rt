@@ -1,6 +1,7 @@
 // Prints what each module does in one step: a row for each position of its calls, each word of interest that
 // the position's operation may find, and each way that the step may go. The file `stdout`, to which that is
 // held, has what the standard library's own code does there.
+#![tactic(auto)]
 mod names;
 mod order;
 mod phrase;

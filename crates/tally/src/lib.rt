@@ -1,5 +1,6 @@
 // The tally of a replay: five counts, lent and added to in place as events come. A count at its largest
 // value stays there.
+#![tactic(auto)]
 ghost use Rattle.std.specs.Prelude.{◌≡◌};
 ghost use Rattle.tally.specs.Tally.{up_by, granted_of, bump_of, no_tally, add_event, grants_of};
 

@@ -1,5 +1,7 @@
 // std's futex Parker (thread_parking/futex.rs) as a step machine: a step runs one atomic operation or
 // one futex call, then the local code up to the next one.
+#![tactic(auto, unfolding(crate::specs::ThreadParking::after_wait, crate::specs::ThreadParking::decide_of, crate::specs::ThreadParking::ends, crate::specs::ThreadParking::entry_of, crate::specs::ThreadParking::may_wake, crate::specs::ThreadParking::moves, crate::specs::ThreadParking::needs_of, crate::specs::ThreadParking::operand_of, crate::specs::ThreadParking::park_after_wait, crate::specs::ThreadParking::park_of, crate::specs::ThreadParking::park_waits, crate::specs::ThreadParking::parker_of, crate::specs::ThreadParking::passed_of, crate::specs::ThreadParking::sleeps, crate::specs::ThreadParking::unpark_may_wake, crate::specs::ThreadParking::unpark_of, crate::specs::ThreadParking::waits_of, crate::specs::ThreadParking::weak_next))]
+
 ghost use Rattle.std.specs.Prelude.{◌≡◌};
 ghost use Rattle.words.specs.Parker.{PARKED};
 ghost use Rattle.thread_parking.specs.ThreadParking.{entry_of, moves, sleeps, ends, park_of, unpark_of, decide_of, park_after_wait, after_wait, operand_of, parker_of, weak_next, passed_of, needs_of, park_waits, waits_of, unpark_may_wake, may_wake};

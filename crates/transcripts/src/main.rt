@@ -1,6 +1,7 @@
 // Replays the files of records that its arguments name, one after the other: a line with the file's name, then
 // its lines and its tally. What it must write of the stored files was worked out by hand or is what the Rust
 // itself did (oracle/README.md).
+#![tactic(auto)]
 use libc::STDOUT_FILENO;
 
 fn say(words: &[u8]) {

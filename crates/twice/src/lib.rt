@@ -1,6 +1,7 @@
 // Each function is called twice with the same inputs, and its contract alone says that both answers are the
 // same, and so are both buffers, where they were the same before. A contract that left anything open would fail
 // here.
+#![tactic(auto)]
 ghost use Rattle.std.specs.Prelude.{◌≡◌};
 
 use acts::Fields;

@@ -1,5 +1,5 @@
 -- A flag in a word, tested by `&` and set by `|`, in arithmetic: one law for each, over the flag's place. Assumes nothing.
-use Rattle.std.proofs.Common.{◌≡◌, ℕ, zero, suc, ◌+◌, ◌-◌, ◌*◌, ◌/◌, ◌%◌, ◌^◌, ◌<◌, ◌≤◌, Bool, true, false, cond, not, eqb, sym, refl, ap, ◌∙◌, arith, eq-eqb, ne_eqb}
+use Rattle.std.proofs.Common.{◌≡◌, ℕ, zero, suc, ◌+◌, ◌-◌, ◌*◌, ◌/◌, ◌%◌, ◌^◌, ◌<◌, cond, not, eqb, sym, ap, ◌∙◌, arith, eq-eqb, ne_eqb}
 use lib.Bits.{bit_and, bit_or, and_high, or_add_and}
 
 -- the number that has only the bit at place k

@@ -1,6 +1,6 @@
 -- An RwLock's state by its three readings, a count and two flags: a state is its readings, and each operation is read off by linear
 -- arithmetic, so that no other proof looks into a word. Assumes nothing.
-use Rattle.std.proofs.Common.{◌≡◌, ℕ, zero, suc, ◌+◌, ◌-◌, ◌*◌, ◌/◌, ◌%◌, ◌^◌, ◌<◌, ◌≤◌, Bool, true, false, cond, eqb, sym, refl, ap, ◌∙◌, arith, eqb-true}
+use Rattle.std.proofs.Common.{◌≡◌, ℕ, zero, suc, ◌+◌, ◌-◌, ◌*◌, ◌%◌, ◌^◌, ◌<◌, ◌≤◌, Bool, true, false, cond, eqb, refl, arith, eqb-true}
 use borrow.Author.Tests.{eqb-false}
 use Rattle.words.specs.Atomic.{wrapping_add, wrapping_sub}
 use Rattle.words.specs.RwLock.{MASK, READERS_WAITING, WRITERS_WAITING, count, readers_waiting, writers_waiting, has_readers_waiting, has_writers_waiting, read_locked, read_unlocked, write_locked, write_unlocked, downgraded, without_readers_waiting, with_write_locked, with_readers_waiting, with_writers_waiting}

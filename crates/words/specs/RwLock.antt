@@ -1,5 +1,5 @@
 -- The state word of an RwLock, from rwlock/futex.rs: its three readings, its tests and its operations, in arithmetic. Assumes nothing.
-use Rattle.std.specs.Prelude.{ℕ, ◌+◌, ◌-◌, ◌*◌, ◌/◌, ◌%◌, ◌^◌, Bool, cond, not, ◌&&◌, ◌==◌, nat_lt}
+use Rattle.std.specs.Prelude.{ℕ, ◌+◌, ◌-◌, ◌/◌, ◌%◌, ◌^◌, Bool, cond, not, ◌&&◌, ◌==◌, nat_lt}
 use Rattle.words.specs.Atomic.{wrapping_add, wrapping_sub}
 
 abbrev pub READ_LOCKED : ℕ

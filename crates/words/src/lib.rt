@@ -1,5 +1,7 @@
 // The kinds of words that the five modules keep, each with its constants, its tests and its operations;
 // and what an operation on a word may do beside storing: change a hold, wake sleepers.
+#![tactic(auto, unfolding(crate::specs::Atomic::wrapping_add, crate::specs::Atomic::wrapping_sub, crate::specs::Atomic::exchanges, crate::specs::Once::state_of, crate::specs::Once::is_queued, crate::specs::Parker::less_one, crate::specs::RwLock::count, crate::specs::RwLock::readers_waiting, crate::specs::RwLock::writers_waiting, crate::specs::RwLock::is_unlocked, crate::specs::RwLock::is_write_locked, crate::specs::RwLock::has_readers_waiting, crate::specs::RwLock::has_writers_waiting, crate::specs::RwLock::is_read_lockable, crate::specs::RwLock::is_read_lockable_after_wakeup, crate::specs::RwLock::has_reached_max_readers, crate::specs::RwLock::with_write_locked, crate::specs::RwLock::with_readers_waiting, crate::specs::RwLock::with_writers_waiting))]
+
 ghost use Rattle.std.specs.Prelude.{◌≡◌};
 ghost use Rattle.words.specs.Atomic.{exchanges, wrapping_add, wrapping_sub};
 ghost use Rattle.words.specs.Counter.{incremented};

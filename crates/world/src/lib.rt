@@ -1,5 +1,6 @@
 // A world: threads, words, holds and the row of sleepers, by value. A world handed in may be any value of
 // its type: every function has an answer for it.
+#![tactic(auto)]
 ghost use Rattle.std.specs.Prelude.{◌≡◌, get_or};
 ghost use Rattle.calls.specs.Plans.{idle};
 ghost use Rattle.world.specs.World.{fresh_world, sleeps_on};

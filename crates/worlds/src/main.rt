@@ -1,5 +1,6 @@
 // Reads records from standard input like the replay, and writes behind the line of each accepted act three lines
 // on the world after it: the words, the queues and the holds, as `oracle --worlds` does (oracle/README.md).
+#![tactic(auto)]
 mod changed;
 mod holds;
 mod queues;
