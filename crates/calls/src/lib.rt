@@ -30,7 +30,7 @@ pub const ONCES: usize = 4;
 pub const WORDS: usize = MUTEXES + RWLOCKS + RWLOCKS + CONDVARS + ONCES + THREADS;
 
 // Where a thread stands: idle, or in a call on an object.
-#[derive(Drop)]
+#[derive(Clone, Copy)]
 pub enum At {
     Idle,
     Mutex { mutex: u8, at: MutexAt },
@@ -42,14 +42,14 @@ pub enum At {
 }
 
 // A thread's record. A sleeper stands at the futex_wait that it sleeps in.
-#[derive(Drop)]
+#[derive(Clone, Copy)]
 pub struct Thread {
     pub at: At,
     pub asleep: bool,
 }
 
 // What an act answers.
-#[derive(Drop)]
+#[derive(Clone, Copy)]
 pub enum Event {
     Set,
     Begun,
@@ -65,7 +65,7 @@ pub enum Event {
 
 // What a step does: the word's new value, the thread's next record, the hold of `object` that changes,
 // whom it wakes, and what is told of it (the sleepers woken not yet counted).
-#[derive(Drop)]
+#[derive(Clone, Copy)]
 pub struct Plan {
     pub word: u32,
     pub next: Thread,
@@ -76,7 +76,7 @@ pub struct Plan {
 }
 
 // The hold that a thread has until an operation of its call takes it away.
-#[derive(Drop)]
+#[derive(Clone, Copy)]
 pub struct Need {
     pub hold: Needs,
     pub object: u8,

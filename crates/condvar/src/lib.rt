@@ -8,7 +8,7 @@ ghost use Rattle.condvar.specs.Condvar.{entry_of, moves, sleeps, ends, unlock_st
 use mutex::{LockAt, LockNext, LockStep, UnlockAt, UnlockNext, UnlockStep};
 use words::{CounterWord, Hold, Kind, Needs, Wake};
 
-#[derive(Drop)]
+#[derive(Clone, Copy)]
 pub enum CondvarCall {
     Wait { mutex: u8 },
     NotifyOne,
@@ -17,7 +17,7 @@ pub enum CondvarCall {
 
 // Where in `wait` a thread stands, by the operation that is next. `sequence` is the notification
 // counter as it was before the mutex was unlocked.
-#[derive(Drop)]
+#[derive(Clone, Copy)]
 pub enum WaitAt {
     Load,
     // in mutex.unlock()
@@ -29,7 +29,7 @@ pub enum WaitAt {
 }
 
 // Where in `notify_one` or `notify_all` a thread stands.
-#[derive(Drop)]
+#[derive(Clone, Copy)]
 pub enum NotifyAt {
     Add,
     // futex_wake or futex_wake_all
@@ -37,13 +37,13 @@ pub enum NotifyAt {
 }
 
 // Where in a call on a condvar a thread stands; `mutex` is the one that a wait names.
-#[derive(Drop)]
+#[derive(Clone, Copy)]
 pub enum CondvarAt {
     Wait { mutex: u8, at: WaitAt },
     Notify { all: bool, at: NotifyAt },
 }
 
-#[derive(Drop)]
+#[derive(Clone, Copy)]
 pub enum CondvarNext {
     Moved(CondvarAt),
     Asleep,
@@ -51,7 +51,7 @@ pub enum CondvarNext {
 }
 
 // What a step of a call on a condvar does.
-#[derive(Drop)]
+#[derive(Clone, Copy)]
 pub struct CondvarStep {
     pub word: u32,
     pub next: CondvarNext,

@@ -7,7 +7,7 @@ ghost use Rattle.mutex.specs.Mutex.{entry_of, lock_of, contended, spun, try_lock
 
 use words::{Hold, Kind, MutexWord, Needs, Wake};
 
-#[derive(Drop)]
+#[derive(Clone, Copy)]
 pub enum MutexCall {
     Lock,
     TryLock,
@@ -15,7 +15,7 @@ pub enum MutexCall {
 }
 
 // Where in `lock` a thread stands, by the operation that is next.
-#[derive(Drop)]
+#[derive(Clone, Copy)]
 pub enum LockAt {
     // lock's exchange of UNLOCKED for LOCKED
     Exchange,
@@ -32,7 +32,7 @@ pub enum LockAt {
 }
 
 // Where in `unlock` a thread stands.
-#[derive(Drop)]
+#[derive(Clone, Copy)]
 pub enum UnlockAt {
     Swap,
     // futex_wake, of one
@@ -40,14 +40,14 @@ pub enum UnlockAt {
 }
 
 // Where in a call on a mutex a thread stands.
-#[derive(Drop)]
+#[derive(Clone, Copy)]
 pub enum MutexAt {
     Lock { at: LockAt },
     TryLock,
     Unlock { at: UnlockAt },
 }
 
-#[derive(Drop)]
+#[derive(Clone, Copy)]
 pub enum LockNext {
     Moved(LockAt),
     Asleep,
@@ -55,7 +55,7 @@ pub enum LockNext {
 }
 
 // What a step of `lock` does.
-#[derive(Drop)]
+#[derive(Clone, Copy)]
 pub struct LockStep {
     pub word: u32,
     pub next: LockNext,
@@ -63,14 +63,14 @@ pub struct LockStep {
     pub wake: Wake,
 }
 
-#[derive(Drop)]
+#[derive(Clone, Copy)]
 pub enum UnlockNext {
     Moved(UnlockAt),
     Ended,
 }
 
 // What a step of `unlock` does.
-#[derive(Drop)]
+#[derive(Clone, Copy)]
 pub struct UnlockStep {
     pub word: u32,
     pub next: UnlockNext,
@@ -78,7 +78,7 @@ pub struct UnlockStep {
     pub wake: Wake,
 }
 
-#[derive(Drop)]
+#[derive(Clone, Copy)]
 pub enum MutexNext {
     Moved(MutexAt),
     Asleep,
@@ -86,7 +86,7 @@ pub enum MutexNext {
 }
 
 // What a step of a call on a mutex does.
-#[derive(Drop)]
+#[derive(Clone, Copy)]
 pub struct MutexStep {
     pub word: u32,
     pub next: MutexNext,

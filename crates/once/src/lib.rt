@@ -1,7 +1,8 @@
 // std's futex Once (once/futex.rs) as a step machine: a step runs one atomic operation or one futex
 // call, then the local code up to the next one. Dropping the CompletionGuard is the positions after the
 // closure.
-#![tactic(auto)]
+#![tactic(auto, unfolding(crate::specs::Once::after_wait, crate::specs::Once::call_after_wait, crate::specs::Once::call_in_closure, crate::specs::Once::call_may_wake, crate::specs::Once::call_of, crate::specs::Once::call_passed, crate::specs::Once::call_top, crate::specs::Once::call_waits, crate::specs::Once::call_weak_next, crate::specs::Once::close_of, crate::specs::Once::decide_of, crate::specs::Once::drops_to, crate::specs::Once::ends, crate::specs::Once::enters, crate::specs::Once::entry_of, crate::specs::Once::finishes, crate::specs::Once::in_closure, crate::specs::Once::is_completed_of, crate::specs::Once::is_panicked, crate::specs::Once::may_wake, crate::specs::Once::moves, crate::specs::Once::needs_of, crate::specs::Once::operand_of, crate::specs::Once::panics, crate::specs::Once::passed_of, crate::specs::Once::queued_passed, crate::specs::Once::queues, crate::specs::Once::running_passed, crate::specs::Once::sleeps, crate::specs::Once::wait_after_wait, crate::specs::Once::wait_of, crate::specs::Once::wait_passed, crate::specs::Once::wait_top, crate::specs::Once::wait_waits, crate::specs::Once::wait_weak_next, crate::specs::Once::waits_of, crate::specs::Once::weak_next))]
+
 ghost use Rattle.std.specs.Prelude.{◌≡◌};
 ghost use Rattle.words.specs.Once.{QUEUED};
 ghost use Rattle.once.specs.Once.{entry_of, moves, sleeps, ends, panics, enters, queues, call_top, wait_top, drops_to, is_panicked, finishes, call_after_wait, wait_after_wait, call_of, wait_of, is_completed_of, decide_of, close_of, call_in_closure, in_closure, after_wait, operand_of, call_weak_next, wait_weak_next, weak_next, running_passed, call_passed, queued_passed, wait_passed, passed_of, needs_of, call_waits, wait_waits, waits_of, call_may_wake, may_wake};
@@ -9,7 +10,7 @@ ghost use Rattle.once.specs.Once.{entry_of, moves, sleeps, ends, panics, enters,
 use words::{Kind, Needs, OnceWord, Panic, Wake};
 
 // `ignores`: ignore_poisoning.
-#[derive(Drop)]
+#[derive(Clone, Copy)]
 pub enum OnceCall {
     Call { ignores: bool },
     Wait { ignores: bool },
@@ -17,7 +18,7 @@ pub enum OnceCall {
 }
 
 // How a closure ends: it returns, it returns after poison(), it panics.
-#[derive(Drop)]
+#[derive(Clone, Copy)]
 pub enum Ending {
     Returned,
     Poisoned,
@@ -26,7 +27,7 @@ pub enum Ending {
 
 // Where in `call` a thread stands, by the operation that is next. `seen` is state_and_queued as the loop
 // last saw it, with QUEUED added where the thread has set it.
-#[derive(Drop)]
+#[derive(Clone, Copy)]
 pub enum CallAt {
     Load,
     // of what was seen for RUNNING, weak
@@ -44,7 +45,7 @@ pub enum CallAt {
 }
 
 // Where in `wait` a thread stands.
-#[derive(Drop)]
+#[derive(Clone, Copy)]
 pub enum WaitAt {
     Load,
     ExchangeQueued { seen: u32 },
@@ -52,14 +53,14 @@ pub enum WaitAt {
 }
 
 // Where in a call on a Once a thread stands.
-#[derive(Drop)]
+#[derive(Clone, Copy)]
 pub enum OnceAt {
     Call { ignores: bool, at: CallAt },
     Wait { ignores: bool, at: WaitAt },
     IsCompleted,
 }
 
-#[derive(Drop)]
+#[derive(Clone, Copy)]
 pub enum OnceNext {
     Moved(OnceAt),
     Asleep,
@@ -69,7 +70,7 @@ pub enum OnceNext {
 }
 
 // What a step of a call on a Once does.
-#[derive(Drop)]
+#[derive(Clone, Copy)]
 pub struct OnceStep {
     pub word: u32,
     pub next: OnceNext,

@@ -11,7 +11,7 @@ pub const THREADS: usize = 32;
 
 const LAST: usize = THREADS - 1;
 
-#[derive(Drop)]
+#[derive(Clone, Copy)]
 pub struct Row {
     // the longest asleep first, and 0 in the places that are not used
     pub places: [u8; THREADS],
@@ -19,13 +19,13 @@ pub struct Row {
     pub count: usize,
 }
 
-#[derive(Drop)]
+#[derive(Clone, Copy)]
 pub struct Pushed {
     pub row: Row,
     pub ok: bool,
 }
 
-#[derive(Drop)]
+#[derive(Clone, Copy)]
 pub struct Taken {
     pub row: Row,
     pub thread: u8,

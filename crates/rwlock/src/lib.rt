@@ -1,6 +1,7 @@
 // std's futex RwLock (rwlock/futex.rs) as a step machine: a step runs one atomic operation or one futex
 // call, then the local code up to the next one.
-#![tactic(auto)]
+#![tactic(auto, unfolding(crate::specs::Positions::after_wait, crate::specs::Positions::downgrade_may_wake, crate::specs::Positions::downgrade_needs, crate::specs::Positions::may_wake, crate::specs::Positions::must_wait, crate::specs::Positions::needs_of, crate::specs::Positions::operand_of, crate::specs::Positions::passed_of, crate::specs::Positions::read_passed, crate::specs::Positions::read_wait_next, crate::specs::Positions::read_waits, crate::specs::Positions::read_weak_next, crate::specs::Positions::try_read_passed, crate::specs::Positions::try_weak_next, crate::specs::Positions::try_write_passed, crate::specs::Positions::waits_of, crate::specs::Positions::wake_may_wake, crate::specs::Positions::wake_operand, crate::specs::Positions::weak_next, crate::specs::Positions::write_operand, crate::specs::Positions::write_passed, crate::specs::Positions::write_wait_next, crate::specs::Positions::write_waits, crate::specs::Positions::write_weak_next, crate::specs::RwLock::decide_of, crate::specs::RwLock::downgrade_of, crate::specs::RwLock::ends, crate::specs::RwLock::entry_of, crate::specs::RwLock::may_read, crate::specs::RwLock::moves_with, crate::specs::RwLock::panics, crate::specs::RwLock::read_after_wait, crate::specs::RwLock::read_of, crate::specs::RwLock::read_top, crate::specs::RwLock::read_unlock_of, crate::specs::RwLock::sleeps, crate::specs::RwLock::stops_read, crate::specs::RwLock::stops_write, crate::specs::RwLock::try_read_of, crate::specs::RwLock::try_read_top, crate::specs::RwLock::try_write_of, crate::specs::RwLock::try_write_top, crate::specs::RwLock::wake_of, crate::specs::RwLock::wake_rest, crate::specs::RwLock::wake_top, crate::specs::RwLock::write_after_wait, crate::specs::RwLock::write_locked_with, crate::specs::RwLock::write_of, crate::specs::RwLock::write_top, crate::specs::RwLock::write_unlock_of))]
+
 ghost use Rattle.std.specs.Prelude.{◌≡◌, false};
 ghost use Rattle.words.specs.Atomic.{SPINS};
 ghost use Rattle.words.specs.declared.Hold.TheVariants.{Same};
@@ -10,7 +11,7 @@ ghost use Rattle.rwlock.specs.Positions.{after_wait, write_operand, wake_operand
 
 use words::{CounterWord, Hold, Kind, Needs, Panic, RwLockWord, Wake};
 
-#[derive(Drop)]
+#[derive(Clone, Copy)]
 pub enum RwLockCall {
     Read,
     TryRead,
@@ -23,7 +24,7 @@ pub enum RwLockCall {
 
 // Where in `read` a thread stands, by the operation that is next. `seen` is the state that an exchange
 // expects or a futex_wait waits on, `slept` is has_slept, `left` the spins to go.
-#[derive(Drop)]
+#[derive(Clone, Copy)]
 pub enum ReadAt {
     Load,
     // read's exchange, weak
@@ -38,7 +39,7 @@ pub enum ReadAt {
 }
 
 // Where in the `try_update` of `try_read` or `try_write` a thread stands.
-#[derive(Drop)]
+#[derive(Clone, Copy)]
 pub enum TryAt {
     Load,
     // weak
@@ -47,7 +48,7 @@ pub enum TryAt {
 
 // Where in `write` a thread stands. `others`: other_writers_waiting is WRITERS_WAITING, and not 0;
 // `sequence` is the notification counter seen.
-#[derive(Drop)]
+#[derive(Clone, Copy)]
 pub enum WriteAt {
     // write's exchange of 0, weak
     Exchange,
@@ -65,7 +66,7 @@ pub enum WriteAt {
 }
 
 // Where in wake_writer_or_readers a thread stands. `both`: readers were waiting too.
-#[derive(Drop)]
+#[derive(Clone, Copy)]
 pub enum WakeAt {
     ExchangeWriters,
     ExchangeBoth,
@@ -77,7 +78,7 @@ pub enum WakeAt {
     WakeReaders,
 }
 
-#[derive(Drop)]
+#[derive(Clone, Copy)]
 pub enum DowngradeAt {
     Add,
     Subtract,
@@ -86,7 +87,7 @@ pub enum DowngradeAt {
 
 // Where in a call on an RwLock a thread stands. After the fetch_sub of read_unlock and of write_unlock
 // both are in wake_writer_or_readers; `writer`: it was write_unlock's.
-#[derive(Drop)]
+#[derive(Clone, Copy)]
 pub enum RwLockAt {
     Read { at: ReadAt },
     TryRead { at: TryAt },
@@ -98,7 +99,7 @@ pub enum RwLockAt {
     Downgrade { at: DowngradeAt },
 }
 
-#[derive(Drop)]
+#[derive(Clone, Copy)]
 pub enum RwLockNext {
     Moved(RwLockAt),
     Asleep,
@@ -107,7 +108,7 @@ pub enum RwLockNext {
 }
 
 // What a step of a call on an RwLock does.
-#[derive(Drop)]
+#[derive(Clone, Copy)]
 pub struct RwLockStep {
     pub word: u32,
     pub next: RwLockNext,

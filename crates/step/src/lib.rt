@@ -15,21 +15,21 @@ use words::{Hold, Wake};
 use world::{LOCK_HOLDS, MUTEX_HOLDS, World};
 
 // A world, and how many woke on the way to it.
-#[derive(Drop)]
+#[derive(Clone, Copy)]
 pub struct Woken {
     pub world: World,
     pub count: u8,
 }
 
 // A row, and how many left it.
-#[derive(Drop)]
+#[derive(Clone, Copy)]
 pub struct Left {
     pub row: Row,
     pub count: u8,
 }
 
 // What an act answers, and the world after it.
-#[derive(Drop)]
+#[derive(Clone, Copy)]
 pub struct Acted {
     pub event: Event,
     pub world: World,

@@ -9,7 +9,7 @@ use calls::{At, Event};
 // The largest count.
 pub const MOST: u64 = 0xFFFF_FFFF_FFFF_FFFF;
 
-#[derive(Drop)]
+#[derive(Clone, Copy)]
 pub struct Tally {
     // done-1 events of the calls that take a lock
     pub grants: u64,
@@ -21,7 +21,7 @@ pub struct Tally {
 }
 
 // What one event adds to each count.
-#[derive(Drop)]
+#[derive(Clone, Copy)]
 pub struct Bump {
     pub grants: u64,
     pub sleeps: u64,

@@ -8,7 +8,7 @@ ghost use Rattle.thread_parking.specs.ThreadParking.{entry_of, moves, sleeps, en
 
 use words::{Kind, Needs, ParkerWord, Wake};
 
-#[derive(Drop)]
+#[derive(Clone, Copy)]
 pub enum ParkerCall {
     // the calling thread's own Parker
     Park,
@@ -17,7 +17,7 @@ pub enum ParkerCall {
 }
 
 // Where in `park` a thread stands, by the operation that is next.
-#[derive(Drop)]
+#[derive(Clone, Copy)]
 pub enum ParkAt {
     Subtract,
     // futex_wait on PARKED
@@ -27,7 +27,7 @@ pub enum ParkAt {
 }
 
 // Where in `unpark` a thread stands.
-#[derive(Drop)]
+#[derive(Clone, Copy)]
 pub enum UnparkAt {
     Swap,
     // futex_wake, of one
@@ -35,13 +35,13 @@ pub enum UnparkAt {
 }
 
 // Where in a call on a Parker a thread stands.
-#[derive(Drop)]
+#[derive(Clone, Copy)]
 pub enum ParkerAt {
     Park { at: ParkAt },
     Unpark { thread: u8, at: UnparkAt },
 }
 
-#[derive(Drop)]
+#[derive(Clone, Copy)]
 pub enum ParkerNext {
     Moved(ParkerAt),
     Asleep,
@@ -49,7 +49,7 @@ pub enum ParkerNext {
 }
 
 // What a step of a call on a Parker does.
-#[derive(Drop)]
+#[derive(Clone, Copy)]
 pub struct ParkerStep {
     pub word: u32,
     pub next: ParkerNext,

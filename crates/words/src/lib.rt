@@ -11,7 +11,7 @@ ghost use Rattle.words.specs.Parker.{PARKED, is_notified, is_parked, less_one};
 ghost use Rattle.words.specs.RwLock.{count, is_unlocked, is_write_locked, has_readers_waiting, has_writers_waiting, is_read_lockable, is_read_lockable_after_wakeup, has_reached_max_readers, read_locked, read_unlocked, write_locked, write_unlocked, downgraded, with_write_locked, with_readers_waiting, without_readers_waiting, with_writers_waiting};
 
 // What a word is, and so where it stands among the words of a world. `Nothing`: no operation is next.
-#[derive(Drop)]
+#[derive(Clone, Copy)]
 pub enum Kind {
     Nothing,
     Mutex,
@@ -23,7 +23,7 @@ pub enum Kind {
 }
 
 // What an operation does to the stepping thread's hold of the object that the word belongs to.
-#[derive(Drop)]
+#[derive(Clone, Copy)]
 pub enum Hold {
     Same,
     TakeMutex,
@@ -37,7 +37,7 @@ pub enum Hold {
 }
 
 // Which hold an operation that frees or downgrades asks for.
-#[derive(Drop)]
+#[derive(Clone, Copy)]
 pub enum Needs {
     Nothing,
     Mutex,
@@ -46,7 +46,7 @@ pub enum Needs {
 }
 
 // Whom a futex call wakes, of those asleep on the word.
-#[derive(Drop)]
+#[derive(Clone, Copy)]
 pub enum Wake {
     None,
     One,
