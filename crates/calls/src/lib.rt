@@ -1,7 +1,8 @@
 // Calls over the five modules: where a thread stands in which call on which object, what its next step
 // does, and what an act answers. A module's step becomes the call's here: its end the call's end, its word
 // a number in the row of all words.
-#![tactic(auto)]
+#![tactic(auto, unfolding(crate::specs::Events::tell_of, crate::specs::Events::value_of, crate::specs::Events::woken_of, crate::specs::Objects::word_of, crate::specs::Plans::condvar_plan, crate::specs::Plans::decide_of, crate::specs::Plans::done, crate::specs::Plans::entered, crate::specs::Plans::moved, crate::specs::Plans::mutex_plan, crate::specs::Plans::once_plan, crate::specs::Plans::panicked, crate::specs::Plans::parker_plan, crate::specs::Plans::rwlock_plan, crate::specs::Plans::slept, crate::specs::Positions::after_wait, crate::specs::Positions::call_of, crate::specs::Positions::condvar_call, crate::specs::Positions::condvar_exists, crate::specs::Positions::entry_of, crate::specs::Positions::exists, crate::specs::Positions::in_closure, crate::specs::Positions::is_idle, crate::specs::Positions::may_wake, crate::specs::Positions::mutex_call, crate::specs::Positions::need_of, crate::specs::Positions::once_call, crate::specs::Positions::operand_of, crate::specs::Positions::parker_call, crate::specs::Positions::parker_exists, crate::specs::Positions::passed_of, crate::specs::Positions::rwlock_call, crate::specs::Positions::waits_of, crate::specs::Positions::weak_next))]
+
 ghost use Rattle.std.specs.Prelude.{◌≡◌, cond};
 ghost use Rattle.calls.specs.Objects.{size_of, base_of, word_of};
 ghost use Rattle.calls.specs.Events.{value_of, woken_of, tell_of};
