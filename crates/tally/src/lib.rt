@@ -1,6 +1,7 @@
 // The tally of a replay: five counts, lent and added to in place as events come. A count at its largest
 // value stays there.
-#![tactic(auto)]
+#![tactic(auto, unfolding(crate::specs::Tally::add_event, crate::specs::Tally::bump_of, crate::specs::Tally::granted_of, crate::specs::Tally::grants_of, crate::specs::Tally::up_by))]
+
 ghost use Rattle.std.specs.Prelude.{◌≡◌};
 ghost use Rattle.tally.specs.Tally.{up_by, granted_of, bump_of, no_tally, add_event, grants_of};
 

@@ -1,6 +1,7 @@
 // A world: threads, words, holds and the row of sleepers, by value. A world handed in may be any value of
 // its type: every function has an answer for it.
-#![tactic(auto)]
+#![tactic(auto, unfolding(crate::specs::Holds::has_hold, crate::specs::Holds::holds_mutex, crate::specs::Holds::holds_write, crate::specs::Holds::is_held, crate::specs::Holds::reads_of, crate::specs::World::fresh_world, crate::specs::World::sleeps_on))]
+
 ghost use Rattle.std.specs.Prelude.{◌≡◌, get_or};
 ghost use Rattle.calls.specs.Plans.{idle};
 ghost use Rattle.world.specs.World.{fresh_world, sleeps_on};
