@@ -35,7 +35,7 @@ pub const NAMED_CONDVARS: usize = CONDVARS;
 pub const NAMED_ONCES: usize = ONCES;
 
 // The fields of a record.
-#[derive(Drop)]
+#[derive(Clone, Copy)]
 pub struct Fields {
     pub act: u8,
     pub choice: u8,

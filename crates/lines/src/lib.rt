@@ -1,6 +1,7 @@
 // The transcript's lines, laid into a buffer that the caller lends. A line that does not fit leaves the
 // buffer as it was.
-#![tactic(auto)]
+#![tactic(auto, unfolding(crate::specs::Lines::name_of))]
+
 ghost use Rattle.std.specs.Prelude.{◌≡◌, [], ◌∷◌, ◌++◌, ◌+◌, ◌≤◌, leb, length};
 ghost use Rattle.lines.specs.Lines.{decimal_of, name_of, space, line_of, tally_line, laid, lay_of, end_of};
 

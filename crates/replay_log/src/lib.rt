@@ -24,7 +24,7 @@ use world::World;
 pub const RECORD: usize = 10;
 
 // Why a run stopped.
-#[derive(Drop)]
+#[derive(Clone, Copy)]
 pub enum Stop {
     // fewer bytes are left than a record has
     Short,
@@ -36,7 +36,7 @@ pub enum Stop {
 
 // What a run reached: the world, the tally, the number of the next record, the bytes of the log that it
 // used and of the buffer that it wrote, and why it stopped.
-#[derive(Drop)]
+#[derive(Clone, Copy)]
 pub struct Ran {
     pub world: World,
     pub tally: Tally,
@@ -47,7 +47,7 @@ pub struct Ran {
 }
 
 // The tally at a log's end, and the bytes of the buffer that its last refusal took.
-#[derive(Drop)]
+#[derive(Clone, Copy)]
 pub struct Finished {
     pub tally: Tally,
     pub count: usize,

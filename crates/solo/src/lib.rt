@@ -12,7 +12,7 @@ use queue::THREADS;
 use world::World;
 
 // Where a run stopped.
-#[derive(Drop)]
+#[derive(Clone, Copy)]
 pub enum Stop {
     Done { value: u8 },
     Slept,
@@ -25,7 +25,7 @@ pub enum Stop {
 }
 
 // The stop, the count of steps to it, the sleepers woken in all, and the world.
-#[derive(Drop)]
+#[derive(Clone, Copy)]
 pub struct Ran {
     pub stop: Stop,
     pub count: u16,

@@ -1,6 +1,6 @@
 -- Each hold has a place of its own in its table; what a store in one place does to every hold, and to the counts of them. Assumes nothing.
-use mathlib.Core.Path.{◌≡◌, refl, sym, ap, ◌∙◌}
-use mathlib.Core.Bool.{Bool, true, false, cond}
+use mathlib.Core.Path.{◌≡◌, ap}
+use mathlib.Core.Bool.{Bool, false, cond}
 use mathlib.Core.List.{List}
 use Prim.Native.Nat.{ℕ, ◌+◌, ◌*◌, ◌≤◌, ◌<◌}
 use native.Mathlib.Omega.{arith}
@@ -9,7 +9,7 @@ use lib.Seq.{get_or-set_same, get_or-set_other}
 use Rattle.queue.specs.Row.{THREADS}
 use Rattle.calls.specs.Objects.{MUTEXES, RWLOCKS}
 use Rattle.world.specs.Holds.{MUTEXHOLDS, LOCKHOLDS, mutex_slot, lock_slot, holds_mutex, holds_write, reads_of}
-use Rattle.sound.specs.Ranges.{sum_from, count_from}
+use Rattle.sound.specs.Ranges.{sum_from}
 use Rattle.sound.specs.Sound.{mutex_holders, writers, reads_held}
 use Rattle.sound.proofs.Ranges.{sum-at, sum-agree, sum-change, count-agree, count-change}
 

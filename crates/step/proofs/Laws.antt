@@ -1,13 +1,12 @@
 -- The turns of the loops over all threads, the sleepers counted, and the stores of a plan. Assumes nothing.
-use mathlib.Core.Path.{◌≡◌, refl, sym, ap, ◌∙◌}
-use mathlib.Core.Logic.{◌≢◌}
+use mathlib.Core.Path.{◌≡◌, refl, ap, ◌∙◌}
 use mathlib.Core.Bool.{Bool, true, false, cond}
 use mathlib.Core.List.{List, [], ◌∷◌, ◌++◌, append-nil}
-use Prim.Native.Nat.{ℕ, zero, suc, min, ◌+◌, ◌-◌, ◌%◌, ◌≤◌, ◌<◌}
+use Prim.Native.Nat.{ℕ, suc, min, ◌+◌, ◌-◌, ◌%◌, ◌≤◌, ◌<◌}
 use native.Mathlib.Numerals.{add-one}
 use native.Mathlib.Omega.{arith}
 use lib.Dec.{eqb, ltb}
-use lib.ListN.{length, get_or, take, drop, set, length-take, length-append, length-replicate, drop_of_length-le, get_or-eq_default}
+use lib.ListN.{length, get_or, take, drop, set, length-take, drop_of_length-le, get_or-eq_default}
 use lib.Seq.{take-suc-set, drop-set-lt, take_all, drop-cons, append_snoc, get_or-set_same, get_or-set_other}
 use borrow.Author.Tests.{eqb-true, eqb-false, ltb-true, ltb-false}
 use Rattle.queue.specs.declared.Row.{Row}

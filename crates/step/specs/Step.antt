@@ -1,5 +1,5 @@
 -- One step of a world: the thread's plan over the word that it is about, applied. Assumes nothing.
-use Rattle.std.specs.Prelude.{ℕ, ◌+◌, Bool, true, false, cond, List, [], ◌∷◌, eqb, ltb, length, get_or, set}
+use Rattle.std.specs.Prelude.{ℕ, ◌+◌, Bool, true, false, cond, List, [], ◌∷◌, ltb, length, get_or, set}
 use Rattle.words.specs.Atomic.{wrapping_add, wrapping_sub}
 use Rattle.words.specs.declared.Hold.{Hold}
 use Rattle.words.specs.declared.Hold.TheVariants as H
@@ -13,7 +13,7 @@ use Rattle.calls.specs.declared.Plan.{Plan}
 use Rattle.calls.specs.declared.Event.TheVariants as E
 use Rattle.calls.specs.Events.{tell_of}
 use Rattle.calls.specs.Objects.{WORDS}
-use Rattle.calls.specs.Plans.{awake, idle, decide_of}
+use Rattle.calls.specs.Plans.{awake, decide_of}
 use Rattle.calls.specs.Positions.{operand_of, after_wait}
 use Rattle.world.specs.declared.World.{World}
 use Rattle.step.specs.declared.Left.{Left}

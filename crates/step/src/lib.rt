@@ -1,6 +1,7 @@
 // What each act stores in a world. None of these functions asks whether the act is allowed or the world is
 // sound: each has an answer for every world value.
-#![tactic(auto)]
+#![tactic(auto, unfolding(crate::specs::Acts::begin_of, crate::specs::Acts::close_of, crate::specs::Acts::recorded, crate::specs::Acts::wake_of, crate::specs::Step::wakes_of))]
+
 ghost use Rattle.std.specs.Prelude.{ℕ, min, ◌-◌, ◌%◌, ◌<◌, ◌≡◌, Bool, cond, false, eqb, get_or, set};
 ghost use Rattle.queue.specs.Row.{THREADS, is_wanted, place_of, take_out_of};
 ghost use Rattle.world.specs.World.{on_word, sleeps_on};

@@ -18,7 +18,7 @@ pub const LOCK_HOLDS: usize = THREADS * RWLOCKS;
 
 const FIRST_ONCE: usize = MUTEXES + RWLOCKS + RWLOCKS + calls::CONDVARS;
 
-#[derive(Drop)]
+#[derive(Clone, Copy)]
 pub struct World {
     // the row of all words, by calls::word_number
     pub words: [u32; WORDS],

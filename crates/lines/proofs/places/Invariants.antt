@@ -1,0 +1,10 @@
+use native.Mathlib.Omega.{arith}
+use Rattle.lines.proofs.Loops.{decimal-twenty, Counted, counted_start, counted_step, counted-end}
+use borrow.Author.Rules.{rules}
+use Rattle.lines.proofs.places.Given as goal
+
+abbrev pub invariant-loop-rest : goal.invariant-loop-rest
+invariant-loop-rest l = Counted l.n l.count l.rest
+
+abbrev pub decreases-loop-rest : goal.decreases-loop-rest
+decreases-loop-rest l = l.rest

@@ -1,0 +1,12 @@
+use native.Mathlib.Omega.{arith}
+use Prim.Native.Nat.{◌-◌}
+use lib.ListN.{length}
+use Rattle.lines.proofs.Loops.{Copied, copied-start, copied-step, copied-end, copied-place}
+use borrow.Author.Rules.{rules}
+use Rattle.lines.proofs.put_text.Given as goal
+
+abbrev pub invariant-loop-i : goal.invariant-loop-i
+invariant-loop-i l = Copied l.initial.out l.at l.text l.out l.i
+
+abbrev pub decreases-loop-i : goal.decreases-loop-i
+decreases-loop-i l = length l.text - l.i

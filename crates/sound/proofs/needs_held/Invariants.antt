@@ -1,0 +1,12 @@
+use mathlib.Core.Path.{◌≡◌}
+use Prim.Native.Nat.{◌≤◌, ◌-◌}
+use Rattle.queue.specs.Row.{THREADS}
+use Rattle.sound.specs.Ranges.{all_from}
+use Rattle.sound.specs.Sound.{need_held}
+use Rattle.sound.proofs.needs_held.Given as goal
+
+abbrev pub invariant-loop-t : goal.invariant-loop-t
+invariant-loop-t l = (l.t ≤ THREADS) × (all_from (need_held l.threads l.locked l.written l.reads) (THREADS - l.t) l.t ≡ all_from (need_held l.threads l.locked l.written l.reads) THREADS 0)
+
+abbrev pub decreases-loop-t : goal.decreases-loop-t
+decreases-loop-t l = THREADS - l.t

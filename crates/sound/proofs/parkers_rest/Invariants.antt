@@ -1,0 +1,12 @@
+use mathlib.Core.Path.{◌≡◌}
+use Prim.Native.Nat.{◌≤◌, ◌-◌}
+use Rattle.queue.specs.Row.{THREADS}
+use Rattle.sound.specs.Ranges.{all_from}
+use Rattle.sound.specs.Sound.{parker_rests}
+use Rattle.sound.proofs.parkers_rest.Given as goal
+
+abbrev pub invariant-loop-t : goal.invariant-loop-t
+invariant-loop-t l = (l.t ≤ THREADS) × (all_from (parker_rests l.words) (THREADS - l.t) l.t ≡ all_from (parker_rests l.words) THREADS 0)
+
+abbrev pub decreases-loop-t : goal.decreases-loop-t
+decreases-loop-t l = THREADS - l.t
