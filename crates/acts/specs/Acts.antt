@@ -1,5 +1,5 @@
 -- The acts: what each does where it is accepted, and the refusals before it. Assumes nothing.
-use Rattle.std.specs.Prelude.{ℕ, ◌^◌, ◌<◌, Bool, true, false, cond, List, [], ◌∷◌, eqb, set}
+use Rattle.std.specs.Prelude.{ℕ, ◌^◌, ◌<◌, cond, List, [], ◌∷◌, eqb, set}
 use Rattle.words.specs.Once.{COMPLETE}
 use Rattle.words.specs.declared.Kind.TheVariants as K
 use Rattle.once.specs.declared.Ending.{Ending}

@@ -1,6 +1,6 @@
 -- When an act is refused, and with which number: first by what the record's fields say alone, then by what the world says, each in
 -- document 01's order. 0 stands for none. Assumes nothing.
-use Rattle.std.specs.Prelude.{ℕ, ◌%◌, Bool, true, false, cond, not, ◌&&◌, ◌||◌, eqb, ltb, leb}
+use Rattle.std.specs.Prelude.{ℕ, ◌%◌, Bool, true, cond, not, ◌&&◌, ◌||◌, eqb, ltb, leb}
 use Rattle.words.specs.RwLock.{MAX_READERS}
 use Rattle.queue.specs.Row.{THREADS}
 use Rattle.calls.specs.declared.At.{At}

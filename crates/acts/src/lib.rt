@@ -1,6 +1,6 @@
 // The five acts on a world, with their refusals: any act on any world value gets an answer. A refused act
 // has its number, by document 01's order, and changes nothing.
-#![tactic(auto)]
+#![tactic(auto, unfolding(crate::specs::Acts::accepted_of, crate::specs::Acts::act_of, crate::specs::Acts::acted_of, crate::specs::Acts::ending_of, crate::specs::Acts::set_of, crate::specs::Acts::set_world, crate::specs::Refusals::begin_refusal, crate::specs::Refusals::begin_unnamed_zero, crate::specs::Refusals::both_zero, crate::specs::Refusals::call_exists, crate::specs::Refusals::choices_of, crate::specs::Refusals::close_refusal, crate::specs::Refusals::fields_refusal, crate::specs::Refusals::object_exists, crate::specs::Refusals::object_if_named, crate::specs::Refusals::set_exists, crate::specs::Refusals::set_refusal, crate::specs::Refusals::set_unnamed_zero, crate::specs::Refusals::step_refusal, crate::specs::Refusals::thread_exists, crate::specs::Refusals::unnamed_zero, crate::specs::Refusals::value_if_named, crate::specs::Refusals::wait_exists, crate::specs::Refusals::wake_refusal, crate::specs::Refusals::world_refusal))]
 
 ghost use Rattle.std.specs.Prelude.{◌≡◌, set};
 ghost use Rattle.step.specs.Step.{refused};
