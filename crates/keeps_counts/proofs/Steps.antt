@@ -137,11 +137,11 @@ locks-near words ws rs forgotten t k new o hold row ws-long rs-long th is w did 
         ) (g l h)
 
 -- a step that leaves the holds alone leaves them alone at whatever object
-object_of :
+object_of_lem :
     (kind : Kind) (hold : Hold) (object : ℕ) (of : ℕ → ℕ) (t : ℕ) → (hold ≡ H.Same) ⊎ ((kind ≡ held_kind hold) × ((u : ℕ) → object ≡ of u)) →
     (hold ≡ H.Same) ⊎ (object ≡ of t)
-object_of kind hold object of t (inl e) = inl e
-object_of kind hold object of t (inr e) = inr (e.1 t)
+object_of_lem kind hold object of t (inl e) = inl e
+object_of_lem kind hold object of t (inr e) = inr (e.1 t)
 
 locked-at :
     (locked : List Bool) (t object o : ℕ) (hold : Hold) → (hold ≡ H.Same) ⊎ (object ≡ o) → locked_new locked t o hold ≡ locked_new locked t object hold
@@ -205,7 +205,7 @@ module _
     own = decide_of at f (word_at v (operand_of t at)) a
 
     about : (own.hold ≡ H.Same) ⊎ (own.object ≡ object_of t at)
-    about = object_of (kind_of at) own.hold own.object (λ (u : ℕ). object_of u at) t (hold-about at f word a)
+    about = object_of_lem (kind_of at) own.hold own.object (λ (u : ℕ). object_of u at) t (hold-about at f word a)
 
     far : (kind : Kind) → kind_of at ≢ kind → (m : ℕ) → m < size_of kind → word_of kind m ≡ operand_of t at → ⊥
     far kind n m h q = n (sym (words-apart kind (kind_of at) m (object_of t at) h (operand-object t at in_row) (q ∙ operand-is t at)).0)

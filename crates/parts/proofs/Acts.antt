@@ -107,11 +107,11 @@ marked-goes number l e h = rw (ne_eqb number LAST (λ q. omega arith), e) refl
 
 -- Where every whole record is well marked and has a number, a run that has room uses them all and ends by no refusal, in a world that is
 -- not sound too.
-pub goes_on :
+pub goes_on_lem :
     (sound : Bool) (room : ℕ) (l : List ℕ) (s : State) → is_room (run_of sound room l s).stop ≡ false → WellMarked l →
     s.number + length l / 10 ≤ LAST → ((run_of sound room l s).stop ≡ S.Short) × ((run_of sound room l s).used ≡ 10 * (length l / 10))
 unfolding noted
-goes_on sound =
+goes_on_lem sound =
     by-records sound
     (λ (room : ℕ) (l : List ℕ) (s : State) (r : Run).
     is_room r.stop ≡ false → WellMarked l → s.number + length l / 10 ≤ LAST → (r.stop ≡ S.Short) × (r.used ≡ 10 * (length l / 10)))
@@ -144,7 +144,7 @@ pub unsound-whole : UnsoundWhole
 unsound-whole l s e m b =
     let r : Run = whole_run l s in
     let p : Refuses s r = unsound-run (ample l) l s e in
-    let q = goes_on (sound_world s.world) (ample l) l s (ample-room (sound_world s.world) (ample l) l s (omega arith)) m b in
+    let q = goes_on_lem (sound_world s.world) (ample l) l s (ample-room (sound_world s.world) (ample l) l s (omega arith)) m b in
     let n : p.count ≡ length l / 10 = omega (arith, p.used, q.1) in
     run_is r (refusals (length l / 10) s.number) _ (10 * (length l / 10)) S.Short
     (p.lines

@@ -1,7 +1,7 @@
 -- The run's definition, unrolled by one step: it goes on, it stops, its budget is used up; and the ways out before it. Assumes nothing.
 use Prim.Native.Nat.{ℕ, suc, ◌+◌, ◌-◌, ◌≤◌, ◌<◌}
 use mathlib.Core.Path.{◌≡◌, refl, sym, ap, ◌∙◌}
-use mathlib.Core.Bool.{Bool, true, false, cond, not}
+use mathlib.Core.Bool.{Bool, true, false, not}
 use native.Mathlib.Omega.{arith}
 use lib.Dec.{eqb, ltb}
 use Rattle.queue.specs.Row.{THREADS}
@@ -12,7 +12,6 @@ use Rattle.world.specs.World.{thread_at}
 use Rattle.step.specs.declared.Acted.{Acted}
 use Rattle.step.specs.Step.{step_of}
 use Rattle.sound.specs.Sound.{sound_world}
-use Rattle.acts.specs.declared.Fields.{Fields}
 use Rattle.acts.specs.Refusals.{STEP, step_refusal, world_refusal}
 use Rattle.solo.specs.Run as Run
 use Rattle.solo.specs.Run.{run_from, solo_of}

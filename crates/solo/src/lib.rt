@@ -1,6 +1,7 @@
 // A thread stepped alone, by plain steps under a budget, until its call ends, sleeps, panics or enters a
 // closure. Soundness is tested once: every step keeps it (crates/keeps, `solo-is-acts`).
-#![tactic(auto)]
+#![tactic(auto, unfolding(crate::specs::Solo::answer_of, crate::specs::Solo::name_of, crate::specs::Solo::stop_of, crate::specs::Solo::value_of))]
+
 ghost use Rattle.std.specs.Prelude.{◌≡◌, not};
 ghost use Rattle.calls.specs.Events.{goes_on};
 ghost use Rattle.solo.specs.Run.{run_from, solo_of};
