@@ -1,7 +1,6 @@
 -- Document 01's transcript, byte for byte, and the longest numbers. Assumes nothing.
 use mathlib.Core.Path.{◌≡◌, refl}
-use mathlib.Core.List.{List, [], ◌∷◌, ◌++◌}
-use Prim.Native.Nat.{ℕ}
+use mathlib.Core.List.{[], ◌∷◌, ◌++◌}
 use Rattle.calls.specs.declared.Event.TheVariants as E
 use Rattle.calls.specs.Events.{value_of, woken_of}
 use Rattle.tally.specs.declared.Tally.{Tally}

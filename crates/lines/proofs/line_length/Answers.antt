@@ -1,6 +1,5 @@
 -- `lines::line_length` meets its contract. Assumes nothing.
 use Rattle.lines.proofs.Line.{line-size}
-use borrow.Author.Rules.{rules}
 use Rattle.lines.proofs.line_length.Goals as goal
 
 pub returns : goal.returns

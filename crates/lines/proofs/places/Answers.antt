@@ -1,6 +1,6 @@
 -- `lines::places` meets its contract. The measure is the rest, which a turn divides by ten. Assumes nothing.
 use native.Mathlib.Omega.{arith}
-use Rattle.lines.proofs.Loops.{decimal-twenty, Counted, counted_start, counted_step, counted-end}
+use Rattle.lines.proofs.Loops.{decimal-twenty, counted_start, counted_step, counted-end}
 use borrow.Author.Rules.{rules}
 use Rattle.lines.proofs.places.Goals as goal
 

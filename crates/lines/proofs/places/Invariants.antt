@@ -1,6 +1,4 @@
-use native.Mathlib.Omega.{arith}
-use Rattle.lines.proofs.Loops.{decimal-twenty, Counted, counted_start, counted_step, counted-end}
-use borrow.Author.Rules.{rules}
+use Rattle.lines.proofs.Loops.{Counted}
 use Rattle.lines.proofs.places.Given as goal
 
 abbrev pub invariant-loop-rest : goal.invariant-loop-rest

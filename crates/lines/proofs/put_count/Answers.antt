@@ -4,7 +4,6 @@ use native.Mathlib.Omega.{arith}
 use lib.ListN.{length-append}
 use Rattle.lines.specs.Lines.{decimal_of}
 use Rattle.lines.proofs.Laid.{laid_then}
-use borrow.Author.Rules.{rules}
 use Rattle.lines.proofs.put_count.Goals as goal
 
 pub returns : goal.returns
@@ -17,8 +16,8 @@ returns c =
           c.args.at
           c.args.name.now
           (decimal_of c.args.count ++ (c.args.after ∷ []))
-          name.new.0
-          number.new.0
+          name.new.out
+          number.new.out
           name.result
           name.ensures.1
           number.ensures.1

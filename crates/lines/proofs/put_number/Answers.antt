@@ -5,7 +5,7 @@ use lib.ListN.{length-set}
 use Rattle.lines.specs.Lines.{digit}
 use Rattle.lines.proofs.Digits.{decimal-some}
 use native.Mathlib.Omega.{arith}
-use Rattle.lines.proofs.Loops.{Spelt, spelt-start, spelt-step, spelt-end, spelt-all}
+use Rattle.lines.proofs.Loops.{spelt-start, spelt-step, spelt-end, spelt-all}
 use borrow.Author.Rules.{rules}
 use Rattle.lines.proofs.put_number.Goals as goal
 

@@ -1,11 +1,4 @@
-use Prim.Native.Nat.{◌+◌}
-use mathlib.Core.Path.{refl, ◌∙◌}
-use lib.ListN.{length-set}
-use Rattle.lines.specs.Lines.{digit}
-use Rattle.lines.proofs.Digits.{decimal-some}
-use native.Mathlib.Omega.{arith}
-use Rattle.lines.proofs.Loops.{Spelt, spelt-start, spelt-step, spelt-end, spelt-all}
-use borrow.Author.Rules.{rules}
+use Rattle.lines.proofs.Loops.{Spelt}
 use Rattle.lines.proofs.put_number.Given as goal
 
 abbrev pub invariant-loop-rest : goal.invariant-loop-rest

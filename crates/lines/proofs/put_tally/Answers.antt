@@ -1,86 +1,89 @@
 -- `lines::put_tally` meets its contract: the five counts are laid one behind the other, where all of them fit. Assumes nothing.
-use Prim.Native.Nat.{ℕ, ◌+◌, ◌≤◌}
-use mathlib.Core.Path.{◌≡◌, sym, ap, ◌∙◌}
-use mathlib.Core.List.{List}
-use native.Mathlib.Omega.{arith}
-use lib.Dec.{leb}
-use lib.ListN.{length}
+use Rattle.std.proofs.Common.{◌≡◌, ℕ, ◌+◌, ◌≤◌, length, leb, Bool, true, sym, ap, ◌∙◌, arith}
 use borrow.Author.Tests.{leb-true}
+use Rattle.tally.specs.declared.Tally.{Tally}
 use Rattle.lines.specs.Lines.{tally_line, laid}
 use Rattle.lines.proofs.Laid.{lay-fits, lay-not, end_fits, end-not}
 use Rattle.lines.proofs.TallyLine.{tally-sum, tally-lays}
-use borrow.Author.Rules.{rules}
 use Rattle.lines.proofs.put_tally.Goals as goal
 
-tested : (s : tie.After-fits2) → leb ((start s).args.at + length (line s)) (length (start s).args.out.now) ≡ s.fits2.result
-tested s = sym (s.fits2.ensures ∙ ap (λ (k : ℕ). leb ((start s).args.at + k) (length (start s).args.out.now)) s.before.tally-length.ensures)
+-- the test of the room is that of the line
+fit : (at size n : ℕ) (tally : Tally) {fits b : Bool} → size ≡ length (tally_line tally) → fits ≡ leb (at + size) n → fits ≡ b → leb (at + length (tally_line tally)) n ≡ b
+fit at size n tally same tested is = ap (λ (k : ℕ). leb (at + k) n) (sym same) ∙ (sym tested ∙ is)
 
--- the line fits
-room : (c : tie.Then1) → (start c.before).args.at + length (line c.before) ≤ length (start c.before).args.out.now
-room c = leb-true ((start c.before).args.at + length (line c.before)) (length (start c.before).args.out.now) (tested c.before ∙ c.if1.true)
+-- and so the line fits
+room : (at size n : ℕ) (tally : Tally) {fits : Bool} → size ≡ length (tally_line tally) → fits ≡ leb (at + size) n → fits ≡ true → at + length (tally_line tally) ≤ n
+room at size n tally same tested is = leb-true (at + length (tally_line tally)) n (fit at size n tally same tested is)
 
 pub put_count-sleeps_at-requires : goal.put_count-sleeps_at-requires
 put_count-sleeps_at-requires c =
-    let h = room c in
-    omega (arith, tally-sum (start c).args.tally)
+    let h = room c.args.at c.tally_length-size.result (length c.args.out.now) c.args.tally c.tally_length-size.ensures c.fits-room.ensures c.if-room.true in
+    omega (arith, h, tally-sum c.args.tally)
 
 pub put_count-wakes_at-requires : goal.put_count-wakes_at-requires
 put_count-wakes_at-requires c =
-    let h = room c in
-    omega (arith, tally-sum (start c).args.tally)
+    let h = room c.args.at c.tally_length-size.result (length c.args.out.now) c.args.tally c.tally_length-size.ensures c.fits-room.ensures c.if-room.true in
+    omega (arith, h, tally-sum c.args.tally)
 
 pub put_count-panics_at-requires : goal.put_count-panics_at-requires
 put_count-panics_at-requires c =
-    let h = room c in
-    omega (arith, tally-sum (start c).args.tally)
+    let h = room c.args.at c.tally_length-size.result (length c.args.out.now) c.args.tally c.tally_length-size.ensures c.fits-room.ensures c.if-room.true in
+    omega (arith, h, tally-sum c.args.tally)
 
 pub put_count-refused_at-requires : goal.put_count-refused_at-requires
 put_count-refused_at-requires c =
-    let h = room c in
-    omega (arith, tally-sum (start c).args.tally)
+    let h = room c.args.at c.tally_length-size.result (length c.args.out.now) c.args.tally c.tally_length-size.ensures c.fits-room.ensures c.if-room.true in
+    omega (arith, h, tally-sum c.args.tally)
 
 pub put_count-requires : goal.put_count-requires
 put_count-requires c =
-    let h = room c in
-    omega (arith, tally-sum (start c).args.tally)
+    let h = room c.args.at c.tally_length-size.result (length c.args.out.now) c.args.tally c.tally_length-size.ensures c.fits-room.ensures c.if-room.true in
+    omega (arith, h, tally-sum c.args.tally)
 
 pub returns-then-room : goal.returns-then-room
 returns-then-room c =
-    let at = (start c).args.at in
-    let out = (start c).args.out.now in
-    let first = c.put_count-sleeps_at in
-    let second = c.put_count-wakes_at in
-    let third = c.put_count-panics_at in
-    let fourth = c.put_count-refused_at in
-    let fifth = c.put_count in
-    let fit = tested c ∙ c.if-room.true in
-    let r = room c in
-    let lays : fifth.new.0 ≡ laid out at (line c) =
+    let a = c.args in
+    let out = a.out.now in
+    let line = tally_line a.tally in
+    let f = fit a.at c.tally_length-size.result (length out) a.tally c.tally_length-size.ensures c.fits-room.ensures c.if-room.true in
+    let r = room a.at c.tally_length-size.result (length out) a.tally c.tally_length-size.ensures c.fits-room.ensures c.if-room.true in
+    let lays : c.put_count.new.out ≡ laid out a.at line =
     tally-lays
-    (start c).args.tally
+    a.tally
     out
-    first.new.0
-    second.new.0
-    third.new.0
-    fourth.new.0
-    fifth.new.0
-    at
-    first.result
-    second.result
-    third.result
-    fourth.result
+    c.put_count-sleeps_at.new.out
+    c.put_count-wakes_at.new.out
+    c.put_count-panics_at.new.out
+    c.put_count-refused_at.new.out
+    c.put_count.new.out
+    a.at
+    c.put_count-sleeps_at.result
+    c.put_count-wakes_at.result
+    c.put_count-panics_at.result
+    c.put_count-refused_at.result
     r
-    first.ensures.0
-    second.ensures.0
-    third.ensures.0
-    fourth.ensures.0
-    first.ensures.1
-    second.ensures.1
-    third.ensures.1
-    fourth.ensures.1
-    fifth.ensures.1 in
-    let ends : fifth.result ≡ at + length (line c) = omega (arith, tally-sum (start c).args.tally) in (ends ∙ sym (end_fits out at (line c) fit), lays ∙ sym (lay-fits out at (line c) fit))
+    c.put_count-sleeps_at.ensures.0
+    c.put_count-wakes_at.ensures.0
+    c.put_count-panics_at.ensures.0
+    c.put_count-refused_at.ensures.0
+    c.put_count-sleeps_at.ensures.1
+    c.put_count-wakes_at.ensures.1
+    c.put_count-panics_at.ensures.1
+    c.put_count-refused_at.ensures.1
+    c.put_count.ensures.1 in
+    let ends : c.put_count.result ≡ a.at + length line = omega (arith, tally-sum a.tally) in
+    record {
+      value = ends ∙ sym (end_fits out a.at line f);
+      out_after = lays ∙ sym (lay-fits out a.at line f);
+    }
 
 pub returns : goal.returns
 returns c =
-    let not = tested c ∙ c.if-room.false in (sym (end-not (start c).args.out.now (start c).args.at (line c) not), sym (lay-not (start c).args.out.now (start c).args.at (line c) not))
+    let a = c.args in
+    let out = a.out.now in
+    let line = tally_line a.tally in
+    let n = fit a.at c.tally_length-size.result (length out) a.tally c.tally_length-size.ensures c.fits-room.ensures c.if-room.false in
+    record {
+      value = sym (end-not out a.at line n);
+      out_after = sym (lay-not out a.at line n);
+    }

@@ -1,9 +1,5 @@
 -- `lines::put_text` meets its contract. The measure is how much of the text is left. Assumes nothing.
-use native.Mathlib.Omega.{arith}
-use Prim.Native.Nat.{◌-◌}
-use lib.ListN.{length}
-use Rattle.lines.proofs.Loops.{Copied, copied-start, copied-step, copied-end, copied-place}
-use borrow.Author.Rules.{rules}
+use Rattle.lines.proofs.Loops.{copied-start, copied-step, copied-end, copied-place}
 use Rattle.lines.proofs.put_text.Goals as goal
 
 pub loop-i-init : goal.loop-i-init

@@ -1,8 +1,6 @@
-use native.Mathlib.Omega.{arith}
 use Prim.Native.Nat.{◌-◌}
 use lib.ListN.{length}
-use Rattle.lines.proofs.Loops.{Copied, copied-start, copied-step, copied-end, copied-place}
-use borrow.Author.Rules.{rules}
+use Rattle.lines.proofs.Loops.{Copied}
 use Rattle.lines.proofs.put_text.Given as goal
 
 abbrev pub invariant-loop-i : goal.invariant-loop-i

@@ -1,7 +1,6 @@
 -- `lines::tally_length` meets its contract. Assumes nothing.
 use native.Mathlib.Omega.{arith}
 use Rattle.lines.proofs.TallyLine.{tally-sum}
-use borrow.Author.Rules.{rules}
 use Rattle.lines.proofs.tally_length.Goals as goal
 
 pub returns : goal.returns
