@@ -178,14 +178,14 @@ module _ (start s n : ℕ) where
   unfolding write_of moves_with sleeps ends write_after_wait
   write-carries Wr.Exchange f word h e = decided (Nx Wr.Exchange) (exchanges word 0 f) _ _ (λ _. tt) (λ _. tt)
   write-carries (Wr.Spin others left) f word h e =
-      decided (Nx (Wr.Spin others left)) (stops_write word || eqb left 0) _ _ (λ _. top-carries _ s others word) (λ _. tt)
+      decided (Nx (Wr.Spin others left)) (stops_write word || eqb left 0) _ _ (λ _. top-carries (Rw.Write (Wr.Spin others left)) s others word) (λ _. tt)
   write-carries (Wr.ExchangeContended others seen) f word h e =
-      decided (Nx (Wr.ExchangeContended others seen)) (exchanges word seen f) _ _ (λ _. tt) (λ _. top-carries _ s others word)
+      decided (Nx (Wr.ExchangeContended others seen)) (exchanges word seen f) _ _ (λ _. tt) (λ _. top-carries (Rw.Write (Wr.ExchangeContended others seen)) s others word)
   write-carries (Wr.SetWaiting others seen) f word h e =
-      decided (Nx (Wr.SetWaiting others seen)) (eqb word seen) _ _ (λ _. tt) (λ _. top-carries _ s others word)
+      decided (Nx (Wr.SetWaiting others seen)) (eqb word seen) _ _ (λ _. tt) (λ _. top-carries (Rw.Write (Wr.SetWaiting others seen)) s others word)
   write-carries Wr.LoadSequence f word h e = e refl
   write-carries (Wr.LoadState sequence) f word h e =
-      decided (Nx (Wr.LoadState sequence)) (is_unlocked word || not (has_writers_waiting word)) _ _ (λ _. top-carries _ s true word) (λ _. h)
+      decided (Nx (Wr.LoadState sequence)) (is_unlocked word || not (has_writers_waiting word)) _ _ (λ _. top-carries (Rw.Write (Wr.LoadState sequence)) s true word) (λ _. h)
   write-carries (Wr.Wait sequence) f word h e = decided (Nx (Wr.Wait sequence)) (eqb word sequence) _ _ (λ _. h) (λ _. tt)
 
 -- ---- the middle of a downgrade

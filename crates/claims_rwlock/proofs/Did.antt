@@ -364,9 +364,9 @@ module _ (w n : ℕ) (found : Bool) (lt : w < 2 ^ 32) where
   to-sequence true = beside-others
   to-sequence false = meets-others
 
-  write_top : (p : RwLockAt) (b : Bool) → code_of p ≡ writing_code b → OverState p (write_top b w)
+  write_top_lem : (p : RwLockAt) (b : Bool) → code_of p ≡ writing_code b → OverState p (write_top b w)
   unfolding write_top moves_with
-  write_top p b k =
+  write_top_lem p b k =
       decided (OverState p) (is_unlocked w) _ _ (λ _. d-quiet (RN.Moved (A.Write (Wr.ExchangeContended b w))) refl (rw k (spins b)))
       (λ _. decided (OverState p) (has_writers_waiting w) _ _ (λ _. d-quiet (RN.Moved (A.Write Wr.LoadSequence)) refl (rw k (to-sequence b)))
       (λ _. d-quiet (RN.Moved (A.Write (Wr.SetWaiting b w))) refl (rw k (spins b))))
@@ -395,27 +395,27 @@ module _ (w n : ℕ) (found : Bool) (lt : w < 2 ^ 32) where
       zero_one e = omega arith
   write-did (Wr.Spin others left) f ok _ =
       decided (OverState (A.Write (Wr.Spin others left))) (stops_write w || eqb left 0) _ _
-      (λ _. write_top (A.Write (Wr.Spin others left)) others refl)
+      (λ _. write_top_lem (A.Write (Wr.Spin others left)) others refl)
       (λ _. d-quiet (RN.Moved (A.Write (Wr.Spin others (left - 1)))) refl (spins others))
   write-did (Wr.ExchangeContended others seen) f ok _ =
       decided (OverState (A.Write (Wr.ExchangeContended others seen))) (exchanges w seen f) _ _
       (λ q. let e : w ≡ seen = exchanged w seen f q in let z : count w ≡ 0 = ap count e ∙ count_none seen ok in
       d-takes-write (write_locked_with others seen) (cond others 1 (writers_waiting w)) 1 z (rw (← e) (take-with others w lt)) (with-keeps others)
       (with-codes others))
-      (λ _. write_top (A.Write (Wr.ExchangeContended others seen)) others refl)
+      (λ _. write_top_lem (A.Write (Wr.ExchangeContended others seen)) others refl)
   write-did (Wr.SetWaiting others seen) f ok _ =
       decided (OverState (A.Write (Wr.SetWaiting others seen))) (eqb w seen) _ _
       (λ q. let e : w ≡ seen = eqb-true w seen q in let m = write-waits-is seen ok in
       d-sets-writers (with_writers_waiting seen) others refl (λ z. m.0 (sym (ap count e) ∙ z)) (rw (← e) (set-writers w lt)))
-      (λ _. write_top (A.Write (Wr.SetWaiting others seen)) others refl)
+      (λ _. write_top_lem (A.Write (Wr.SetWaiting others seen)) others refl)
   write-did Wr.LoadSequence f ok k = kinds-differ (sym k)
   write-did (Wr.LoadState sequence) f ok _ = go (is_unlocked w) refl (has_writers_waiting w) refl
     where
       go :
           (u : Bool) → is_unlocked w ≡ u → (v : Bool) → has_writers_waiting w ≡ v →
           OverState (A.Write (Wr.LoadState sequence)) (cond (u || not v) (write_top true w) (moves_with w (A.Write (Wr.Wait sequence)) H.Same W.None))
-      go true a v b = write_top (A.Write (Wr.LoadState sequence)) true refl
-      go false a false b = write_top (A.Write (Wr.LoadState sequence)) true refl
+      go true a v b = write_top_lem (A.Write (Wr.LoadState sequence)) true refl
+      go false a false b = write_top_lem (A.Write (Wr.LoadState sequence)) true refl
       go false a true b = d-quiet (RN.Moved (A.Write (Wr.Wait sequence))) refl (to-write-wait (count-some w a) (writers-set w b))
   write-did (Wr.Wait sequence) f ok k = kinds-differ (sym k)
 

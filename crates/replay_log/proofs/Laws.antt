@@ -5,12 +5,11 @@ use native.Mathlib.Numerals.{add-one}
 use native.Mathlib.Omega.{arith}
 use mathlib.Core.Path.{◌≡◌, refl, sym, ap, subst, ◌∙◌}
 use mathlib.Core.Bool.{Bool, true, false, ◌&&◌}
-use mathlib.Core.List.{List, [], ◌∷◌, ◌++◌, append_assoc, append-nil}
+use mathlib.Core.List.{List, [], ◌∷◌, ◌++◌, append_assoc}
 use lib.Dec.{eqb, leb}
 use lib.ListN.{length, take, drop, set, get_or, length-append, length-drop, length-take, length-set, take-append-drop}
 use lib.Seq.{drop-drop, drop-set-lt, get_or-drop, length-take-le, take_all, take-suc, take-suc-set}
 use borrow.Author.Tests.{leb-true, leb-false, le-leb, lt-leb, ne_eqb}
-use Rattle.calls.specs.declared.Event.{Event}
 use Rattle.calls.specs.declared.Event.TheVariants as E
 use Rattle.calls.specs.Plans.{idle}
 use Rattle.tally.specs.declared.Tally.{Tally}
@@ -18,10 +17,8 @@ use Rattle.tally.specs.Tally.{add_event, grants_of}
 use Rattle.lines.specs.Lines.{line_of, laid, lay_of, end_of}
 use Rattle.lines.proofs.Laid.{laid-take, laid-drop, laid-length, laid_none, lay-fits, lay-not, end_fits, end-not}
 use Rattle.lines.proofs.Line.{line-some}
-use Rattle.world.specs.declared.World.{World}
 use Rattle.step.specs.declared.Acted.{Acted}
 use Rattle.acts.specs.declared.Fields.{Fields}
-use Rattle.replay_log.specs.declared.Stop.{Stop}
 use Rattle.replay_log.specs.declared.Stop.TheVariants as S
 use Rattle.replay_log.specs.declared.Ran.{Ran}
 use Rattle.replay_log.specs.declared.Finished.{Finished}

@@ -1,6 +1,7 @@
 // The run of a log: records of ten bytes, one line for each, and a tally. A log can be run in parts, each
 // from the world, the tally and the number that the part before it reached.
-#![tactic(auto)]
+#![tactic(auto, unfolding(crate::specs::InPlace::quick_begin, crate::specs::InPlace::quick_of, crate::specs::Run::answer_of, crate::specs::Run::ending_of, crate::specs::Run::finish_of, crate::specs::Run::mark_of))]
+
 ghost use Rattle.std.specs.Prelude.{◌≡◌, Bool, ◌+◌, ◌-◌, ◌≤◌, ◌<◌, ◌%◌, min, length, take, drop, get_or};
 ghost use Rattle.io.specs.Counts.{IsPrefixLen};
 ghost use Rattle.queue.specs.Row.{THREADS};
