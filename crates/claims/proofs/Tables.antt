@@ -119,7 +119,7 @@ module _ (w : World) (shaped : Shaped w) (t u o : ℕ) (is-thread : t < THREADS)
       one-begins for-writing u o t object _ _ (eqb u t && eqb o object) refl
       (λ e. let (a, b) = both-are u o t object e in
       let x : bit (holds_write (set w.written (lock_slot t object) true) o u) ≡ 1 = ap bit (write-at object true (F.is-lock refl) a b) in
-      let y : bit (holds_write w.written o u) ≡ 0 = ap bit (write-was object _ a b (F.Takes-write refl)) in omega arith)
+      let y : bit (holds_write w.written o u) ≡ 0 = ap bit (write-was object _ a b (F.takes_write refl)) in omega arith)
       (λ e. ap bit (write-else object true (F.is-lock refl) h (not-both u o t object e)))
   write-leads H.FreeWrite object F h =
       one-ends for-writing u o t object _ _ (eqb u t && eqb o object) refl
@@ -132,7 +132,7 @@ module _ (w : World) (shaped : Shaped w) (t u o : ℕ) (is-thread : t < THREADS)
       (one-ends for-writing u o t object _ _ (eqb u t && eqb o object) refl
       (λ e. let (a, b) = both-are u o t object e in
       let x : bit (holds_write (set w.written (lock_slot t object) false) o u) ≡ 0 = ap bit (write-at object false (F.is-lock refl) a b) in
-      let y : bit (holds_write w.written o u) ≡ 1 = ap bit (write-was object _ a b (F.Turns-down refl)) in omega arith)
+      let y : bit (holds_write w.written o u) ≡ 1 = ap bit (write-was object _ a b (F.turns_down refl)) in omega arith)
       (λ e. ap bit (write-else object false (F.is-lock refl) h (not-both u o t object e))))
       (other-begins refl (at-end refl))
 
