@@ -3,7 +3,6 @@ use Rattle.std.specs.Prelude.{ℕ, ◌+◌, ◌-◌, ◌*◌, ◌≤◌, ◌≡�
 use Rattle.calls.specs.declared.Event.TheVariants as E
 use Rattle.tally.specs.declared.Tally.{Tally}
 use Rattle.tally.specs.Tally.{add_event, grants_of}
-use Rattle.io.specs.Counts.{IsPrefixLen}
 use Rattle.lines.specs.Lines.{line_of, laid, end_of}
 use Rattle.world.specs.declared.World.{World}
 use Rattle.world.specs.World.{thread_at}
@@ -125,6 +124,10 @@ ran_of r = record {
   count = length r.lines;
   stop = r.stop;
 }
+
+-- so many bytes are a list's first ones, and no more than it has
+abbrev pub IsPrefixLen : ℕ → List ℕ → Type 0
+IsPrefixLen n l = (n ≤ length l) × (n ≡ length (take n l))
 
 -- what a run over `len` bytes answers and leaves in its buffer: the answer and the buffer are fixed, and the rest follows for callers
 pub record Answers (run : Run) (len : ℕ) (r : Ran) (out out' : List ℕ) : Type 0 where

@@ -3,7 +3,6 @@
 #![tactic(auto, unfolding(crate::specs::InPlace::quick_begin, crate::specs::InPlace::quick_of, crate::specs::Run::answer_of, crate::specs::Run::ending_of, crate::specs::Run::finish_of, crate::specs::Run::mark_of))]
 
 ghost use Rattle.std.specs.Prelude.{◌≡◌, Bool, ◌+◌, ◌-◌, ◌≤◌, ◌<◌, ◌%◌, min, length, take, drop, get_or};
-ghost use Rattle.io.specs.Counts.{IsPrefixLen};
 ghost use Rattle.queue.specs.Row.{THREADS};
 ghost use Rattle.calls.specs.Objects.{WORDS};
 ghost use Rattle.tally.specs.Tally.{grants_of};
@@ -11,7 +10,7 @@ ghost use Rattle.calls.specs.Plans.{idle};
 ghost use Rattle.calls.specs.Plans.{awake as stands_at};
 ghost use Rattle.sound.specs.Sound.{sound_world};
 ghost use Rattle.lines.specs.Lines.{lay_of};
-ghost use Rattle.replay_log.specs.Run.{fields_of, mark_of, ending_of, answer_of, run_of, state_of, Answers, carried_of, finish_of, finished_line, finished_of};
+ghost use Rattle.replay_log.specs.Run.{IsPrefixLen, fields_of, mark_of, ending_of, answer_of, run_of, state_of, Answers, carried_of, finish_of, finished_line, finished_of};
 ghost use Rattle.replay_log.specs.InPlace.{quick_of, quick_begin};
 
 use acts::Fields;
