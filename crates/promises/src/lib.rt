@@ -1,6 +1,7 @@
 // What is promised of the machine, on one page: each function is the library's, with what the theorems say of
 // it. None asks for anything: a caller's types are enough.
-#![tactic(auto)]
+#![tactic(auto, unfolding(solo::specs::Solo::answer_of))]
+
 ghost use Rattle.std.specs.Prelude.{◌≡◌, true, false, ℕ, ◌^◌, ◌<◌, length};
 ghost use Rattle.calls.specs.declared.Event.TheVariants as E;
 ghost use Rattle.sound.specs.Sound.{sound_world};
@@ -35,10 +36,10 @@ fn narrow(a: Fields)
 // An act: the answer is the definition's; the world after it is sound exactly if it was before; 19 is answered
 // exactly if it was not; a refused act leaves it as it was.
 pub fn act(w: World, a: Fields) -> Acted
-    ensures value { result ≡ act_of w a }
-    ensures world_value { sound_world result.world ≡ sound_world w }
+    ensures answer { result ≡ act_of w a }
+    ensures sound_stays { sound_world result.world ≡ sound_world w }
     ensures exactly_unsound { ExactlyUnsound w (result.event ≡ E.Refused 19) }
-    ensures by_index { (n : ℕ) → result.event ≡ E.Refused n → result.world ≡ w }
+    ensures refused_stays { (n : ℕ) → result.event ≡ E.Refused n → result.world ≡ w }
 {
     shaped(w);
     narrow(a);
@@ -48,11 +49,11 @@ pub fn act(w: World, a: Fields) -> Acted
 // A thread run alone: the answer is the definition's, and so that of the row of step acts; the world after it
 // is sound exactly if it was before; 19 is answered exactly if it was not; a refused run leaves it as it was.
 pub fn solo(w: World, t: u8, budget: u16) -> solo::Ran
-    ensures value { result ≡ answer_of (solo_of w t budget) }
-    ensures value_2 { result ≡ answer_of (solo_by_acts w t budget) }
-    ensures world_value { sound_world result.world ≡ sound_world w }
+    ensures answer { result ≡ answer_of (solo_of w t budget) }
+    ensures by_acts { result ≡ answer_of (solo_by_acts w t budget) }
+    ensures sound_stays { sound_world result.world ≡ sound_world w }
     ensures exactly_unsound { ExactlyUnsound w (result.stop ≡ S.Refused 19) }
-    ensures by_index { (n : ℕ) → result.stop ≡ S.Refused n → result.world ≡ w }
+    ensures refused_stays { (n : ℕ) → result.stop ≡ S.Refused n → result.world ≡ w }
 {
     shaped(w);
     solo::solo(w, t, budget)
@@ -61,10 +62,10 @@ pub fn solo(w: World, t: u8, budget: u16) -> solo::Ran
 // A part of a log: answer and lines are the definition's, and so those of the row of acts; the world after it
 // is sound exactly if it was before; one that was not refuses every record used with 19.
 pub fn run(w: World, t: Tally, number: u32, log: &[u8], out: &mut [u8]) -> replay_log::Ran
-    ensures answers { Answers (part_run (length out.old) log.now (state_of w t number)) (length log.now) result out.old out.new }
-    ensures answers_2 { Answers (run_by_acts (length out.old) log.now (state_of w t number)) (length log.now) result out.old out.new }
-    ensures world_value { sound_world result.world ≡ sound_world w }
-    ensures refuses { sound_world w ≡ false → Refuses (state_of w t number) (part_run (length out.old) log.now (state_of w t number)) }
+    ensures answer { Answers (part_run (length out.old) log.now (state_of w t number)) (length log.now) result out.old out.new }
+    ensures by_acts { Answers (run_by_acts (length out.old) log.now (state_of w t number)) (length log.now) result out.old out.new }
+    ensures sound_stays { sound_world result.world ≡ sound_world w }
+    ensures unsound_refused { sound_world w ≡ false → Refuses (state_of w t number) (part_run (length out.old) log.now (state_of w t number)) }
 {
     shaped(w);
     replay_log::run(w, t, number, log, out)
@@ -73,10 +74,10 @@ pub fn run(w: World, t: Tally, number: u32, log: &[u8], out: &mut [u8]) -> repla
 // A log from a fresh world: the world reached is that of the acts of the records used, it is sound, and demand
 // 3 holds of these acts, with no premise on their number.
 pub fn replay(t: Tally, log: &[u8], out: &mut [u8]) -> replay_log::Ran
-    ensures answers { Answers (replayed t (one_part log.now (length out.old))).run (length log.now) result out.old out.new }
-    ensures world_value { result.world ≡ reached (acts_run t (one_part log.now (length out.old))) }
-    ensures world_value_2 { sound_world result.world ≡ true }
-    ensures replay_demand { ReplayDemand t (one_part log.now (length out.old)) }
+    ensures answer { Answers (replayed t (one_part log.now (length out.old))).run (length log.now) result out.old out.new }
+    ensures world_reached { result.world ≡ reached (acts_run t (one_part log.now (length out.old))) }
+    ensures sound { sound_world result.world ≡ true }
+    ensures demand { ReplayDemand t (one_part log.now (length out.old)) }
 {
     let w = world::fresh();
     run(w, t, 0, log, out)

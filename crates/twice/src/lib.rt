@@ -2,6 +2,7 @@
 // same, and so are both buffers, where they were the same before. A contract that left anything open would fail
 // here.
 #![tactic(auto)]
+
 ghost use Rattle.std.specs.Prelude.{◌≡◌};
 
 use acts::Fields;

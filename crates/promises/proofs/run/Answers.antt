@@ -1,0 +1,21 @@
+-- The run's answer, with what the theorems say of it. Assumes nothing.
+use lib.ListN.{length}
+use Rattle.replay_log.specs.Run.{state_of}
+use Rattle.parts.specs.Parts.{Bytes}
+use Rattle.parts.proofs.Acts.{unsound-run}
+use Rattle.promises.proofs.Laws.{by-acts, run-flag}
+use borrow.Author.Rules.{rules}
+use Rattle.promises.proofs.run.Goals as goal
+
+pub returns : goal.returns
+returns c =
+    let a = c.args in
+    let bytes : Bytes a.log.now = λ k. (c.shared_slice_known-1.given k).fits in
+    let shaped = c.shaped.ensures in
+    let told = c.run.ensures in
+    record {
+      answer = told;
+      by_acts = by-acts (length a.out.now) (length a.log.now) a.log.now a.out.now _ a.w a.t a.number _ shaped bytes told;
+      sound_stays = run-flag (length a.out.now) (length a.log.now) a.log.now a.out.now _ a.w a.t a.number _ shaped bytes told;
+      unsound_refused = λ e. unsound-run (length a.out.now) a.log.now (state_of a.w a.t a.number) e;
+    }
