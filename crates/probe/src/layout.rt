@@ -74,7 +74,7 @@ pub const DOWNGRADE: u8 = 65;
 pub const POSITIONS: u8 = 68;
 
 // A thread's record as its bytes have it: a slot for each value that some position carries.
-#[derive(Drop)]
+#[derive(Clone, Copy)]
 pub struct Slots {
     pub position: u8,
     pub asleep: bool,

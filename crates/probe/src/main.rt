@@ -1,6 +1,7 @@
 // Reads cases from standard input, each a world and what is to be done to it, and writes a line for each.
 // docs/PROBE.md has the layout and the lines.
 #![tactic(auto)]
+
 mod build;
 mod input;
 mod layout;
@@ -10,32 +11,40 @@ mod stand;
 mod tell;
 mod text;
 
+ghost use Rattle.std.specs.Prelude.{◌≤◌, length};
+
+use std::io::Read;
+
+// The bytes of the buffer in which the lines are laid.
+const LAID: usize = 65536;
+
 // What is laid in the buffer and not yet written, and whether to go on.
-#[derive(Drop)]
+#[derive(Clone, Copy)]
 struct Turn {
     have: usize,
     more: bool,
 }
 
-fn say(words: &[u8]) {
-    io::write_all(libc::STDERR_FILENO, words);
+// Where not even standard error can be written, nothing is said.
+fn say(rt: &impl Eprint, words: &str) {
+    let _ = rt.eprintln(words);
 }
 
 // Writes the first bytes of the buffer, and says so where that cannot be done.
-fn written(out: &[u8], count: usize) -> bool {
+fn written(rt: &(impl Print + Eprint), out: &[u8], count: usize) -> bool {
     if count <= out.len() {
-        let whole = io::write_all(libc::STDOUT_FILENO, &out[0..count]);
+        let whole = rt.write_all(&out[0..count]).is_ok();
         if whole {
             return true;
         }
-        say(b"probe: standard output could not be written\n");
+        say(rt, "probe: standard output could not be written");
         return false;
     }
     false
 }
 
 // Writes what is laid, where there is no room for one more line behind it.
-fn spared(out: &[u8], have: usize) -> Turn {
+fn spared(rt: &(impl Print + Eprint), out: &[u8], have: usize) -> Turn {
     if have < out.len() {
         if report::LINE <= out.len() - have {
             return Turn {
@@ -46,54 +55,82 @@ fn spared(out: &[u8], have: usize) -> Turn {
     }
     Turn {
         have: 0,
-        more: written(out, have),
+        more: written(rt, out, have),
     }
 }
 
 // Says so where the input did not end but could not be read.
-fn tell_unread() {
+fn tell_unread(rt: &impl Eprint, input: &mut impl Read) {
     let mut one = [0u8; 1];
-    let got = libc::read(libc::STDIN_FILENO, &mut one);
-    if got != 0 {
-        say(b"probe: standard input could not be read\n");
+    let ended = matches!(input.read(&mut one), Ok(0));
+    if !ended {
+        say(rt, "probe: standard input could not be read");
     }
 }
 
 // The end of the input, with `count` bytes behind the last whole case.
-fn finish(out: &mut [u8], have: usize, count: usize) {
+fn finish(
+    rt: &(impl Print + Eprint),
+    input: &mut impl Read,
+    out: &mut [u8],
+    have: usize,
+    count: usize,
+) {
     if count == 0 {
-        written(out, have);
-        tell_unread();
+        written(rt, out, have);
+        tell_unread(rt, input);
         return;
     }
     let end = report::put_short(out, have, count);
-    written(out, end);
-    tell_unread();
+    written(rt, out, end);
+    tell_unread(rt, input);
+}
+
+// Reads until the buffer is full, the input ends or a read fails, and answers how many bytes were read.
+fn read_full(input: &mut impl Read, buf: &mut [u8]) -> usize
+    ensures { result ≤ length buf.new }
+{
+    let mut done = 0;
+    while done < buf.len() {
+        let n = input.read(&mut buf[done..]).unwrap_or(0);
+        if n == 0 {
+            break;
+        }
+        done += n;
+    }
+    done
 }
 
 // Reads one case, and lays its line.
-fn one_case(case: &mut [u8], out: &mut [u8], have: usize) -> Turn {
-    let count = io::read_full(libc::STDIN_FILENO, case);
+fn one_case(
+    rt: &(impl Print + Eprint),
+    input: &mut impl Read,
+    case: &mut [u8],
+    out: &mut [u8],
+    have: usize,
+) -> Turn {
+    let count = read_full(input, case);
     if count < layout::CASE {
-        finish(out, have, count);
+        finish(rt, input, out, have, count);
         return Turn {
             have: 0,
             more: false,
         };
     }
     let end = report::put_line(out, have, case);
-    spared(out, end)
+    spared(rt, out, end)
 }
 
-fn main() {
+fn main(rt: HostRuntime) {
+    let mut input = rt.reader();
     let mut case = [0u8; layout::CASE];
-    let mut out = io::large_buffer();
+    let mut out = [0u8; LAID];
     let mut have: usize = 0;
     let mut more = true;
     let mut turns = u64::MAX;
     while turns > 0 && more {
         turns -= 1;
-        let t = one_case(&mut case, &mut out, have);
+        let t = one_case(&rt, &mut input, &mut case, &mut out, have);
         have = t.have;
         more = t.more;
     }

@@ -68,7 +68,7 @@ fn naming(slots: Slots, object: u8) -> Slots {
 // The position whose place is known, in the row of positions that begins with the number `first`.
 fn placed(slots: Slots, first: u8) -> Slots {
     let mut s = slots;
-    s.position = std::num::wrapping_add_u8(s.position, first);
+    s.position = s.position.wrapping_add(first);
     s
 }
 

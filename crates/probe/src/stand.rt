@@ -10,7 +10,7 @@ use thread_parking::{ParkAt, ParkerAt, UnparkAt};
 
 // The place of a position in the row of positions that begins with the number `first`.
 fn place(s: Slots, first: u8) -> u8 {
-    std::num::wrapping_sub_u8(s.position, first)
+    s.position.wrapping_sub(first)
 }
 
 // In lock: the mutex's own, or the one with which a wait ends.

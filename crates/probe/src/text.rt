@@ -1,5 +1,6 @@
 // Text laid into a lent buffer at a place; each function answers the place behind it. Where the buffer ends,
 // nothing more is laid.
+use itoa::Buffer;
 
 pub fn put(out: &mut [u8], at: usize, byte: u8) -> usize {
     if at < out.len() {
@@ -32,9 +33,8 @@ pub fn put_name(out: &mut [u8], at: usize, text: &[u8]) -> usize {
 
 // A number in decimal digits, and a space.
 pub fn put_number(out: &mut [u8], at: usize, number: u64) -> usize {
-    let mut digits = [0; 20];
-    let count = io::decimal(number, &mut digits);
-    put_name(out, at, &digits[..count])
+    let mut digits = Buffer::new();
+    put_name(out, at, digits.format(number).as_bytes())
 }
 
 // The last hexadecimal digit of `n`.

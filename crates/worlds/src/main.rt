@@ -1,26 +1,32 @@
 // Reads records from standard input like the replay, and writes behind the line of each accepted act three lines
 // on the world after it: the words, the queues and the holds, as `oracle --worlds` does (oracle/README.md).
 #![tactic(auto)]
+
 mod changed;
 mod holds;
 mod queues;
 mod record;
 mod text;
 
+ghost use Rattle.std.specs.Prelude.{◌≤◌, length};
+
 use acts::Fields;
 use calls::{Event, Thread};
-use libc::{STDERR_FILENO, STDIN_FILENO, STDOUT_FILENO};
 use queue::THREADS;
 use record::RECORD;
+use std::io::Read;
 use tally::Tally;
 use world::World;
+
+// The bytes of the buffer in which the lines are laid.
+const LAID: usize = 65536;
 
 // More bytes than a record's lines have: a name and eight digits for each of 52 words, a name and a number for
 // each of 32 sleepers, a number and a count for each of 32 readers of 4 locks.
 const LINES: usize = 4096;
 
 // How far the records are told.
-#[derive(Drop)]
+#[derive(Clone, Copy)]
 struct Told {
     tally: Tally,
     // of the next record
@@ -30,24 +36,25 @@ struct Told {
     more: bool,
 }
 
-#[derive(Drop)]
+#[derive(Clone, Copy)]
 struct Turn {
     world: World,
     told: Told,
 }
 
-fn say(words: &[u8]) {
-    io::write_all(STDERR_FILENO, words);
+// Where not even standard error can be written, nothing is said.
+fn say(rt: &impl Eprint, words: &str) {
+    let _ = rt.eprintln(words);
 }
 
 // Writes the first bytes of the buffer, and says so where that cannot be done.
-fn written(out: &[u8], count: usize) -> bool {
+fn written(rt: &(impl Print + Eprint), out: &[u8], count: usize) -> bool {
     if count <= out.len() {
-        let whole = io::write_all(STDOUT_FILENO, &out[0..count]);
+        let whole = rt.write_all(&out[0..count]).is_ok();
         if whole {
             return true;
         }
-        say(b"worlds: the lines cannot be written\n");
+        say(rt, "worlds: the lines cannot be written");
         return false;
     }
     false
@@ -65,14 +72,14 @@ fn emptied(s: Told, more: bool) -> Told {
 }
 
 // Writes what is laid, where there is no room for one more record's lines behind it.
-fn spared(s: Told, out: &[u8]) -> Told {
+fn spared(rt: &(impl Print + Eprint), s: Told, out: &[u8]) -> Told {
     let have = s.have;
     if have < out.len() {
         if LINES <= out.len() - have {
             return s;
         }
     }
-    let more = written(out, have);
+    let more = written(rt, out, have);
     emptied(s, more)
 }
 
@@ -94,7 +101,14 @@ fn put_if_accepted(out: &mut [u8], at: usize, event: Event, w: World) -> usize {
 }
 
 // Tells an act: its line, and those on the world after it.
-fn tell(s: Told, event: Event, grant: bool, w: World, out: &mut [u8]) -> Told {
+fn tell(
+    rt: &(impl Print + Eprint),
+    s: Told,
+    event: Event,
+    grant: bool,
+    w: World,
+    out: &mut [u8],
+) -> Told {
     let t = s.tally;
     let number = s.number;
     let world_at = lines::put_line(out, s.have, number, event);
@@ -105,7 +119,7 @@ fn tell(s: Told, event: Event, grant: bool, w: World, out: &mut [u8]) -> Told {
         have: end,
         more: true,
     };
-    spared(told, out)
+    spared(rt, told, out)
 }
 
 // Whether a done-1 event of thread t is a grant, by the call that it is in.
@@ -115,13 +129,13 @@ fn grants_at(threads: [Thread; THREADS], t: u8) -> bool {
     tally::grants(at)
 }
 
-fn run(w: World, s: Told, a: Fields, out: &mut [u8]) -> Turn {
+fn run(rt: &(impl Print + Eprint), w: World, s: Told, a: Fields, out: &mut [u8]) -> Turn {
     let threads = w.threads;
     let grant = grants_at(threads, a.thread);
     let acted = acts::act(w, a);
     let event = acted.event;
     let next = acted.world;
-    let told = tell(s, event, grant, next, out);
+    let told = tell(rt, s, event, grant, next, out);
     Turn {
         world: next,
         told: told,
@@ -129,15 +143,15 @@ fn run(w: World, s: Told, a: Fields, out: &mut [u8]) -> Turn {
 }
 
 // The end of a run: the tally.
-fn finish(s: Told, out: &mut [u8]) -> Told {
+fn finish(rt: &(impl Print + Eprint), s: Told, out: &mut [u8]) -> Told {
     let t = s.tally;
     let end = lines::put_tally(out, s.have, t);
-    written(out, end);
+    written(rt, out, end);
     emptied(s, false)
 }
 
 // The end of a run by a refusal.
-fn refuse(s: Told, refusal: u8, out: &mut [u8]) -> Told {
+fn refuse(rt: &(impl Print + Eprint), s: Told, refusal: u8, out: &mut [u8]) -> Told {
     let t = s.tally;
     let event = Event::Refused { number: refusal };
     let end = lines::put_line(out, s.have, s.number, event);
@@ -147,49 +161,76 @@ fn refuse(s: Told, refusal: u8, out: &mut [u8]) -> Told {
         have: end,
         more: false,
     };
-    finish(refused, out)
+    finish(rt, refused, out)
 }
 
 // The end of a run without a tally.
-fn fail(s: Told, out: &[u8]) -> Told {
-    written(out, s.have);
-    say(b"worlds: the records cannot be read\n");
+fn fail(rt: &(impl Print + Eprint), s: Told, out: &[u8]) -> Told {
+    written(rt, out, s.have);
+    say(rt, "worlds: the records cannot be read");
     emptied(s, false)
 }
 
 // Whether the input is at its end, and not only unreadable.
-fn at_end() -> bool {
+fn at_end(input: &mut impl Read) -> bool {
     let mut one = [0u8; 1];
-    let got = libc::read(STDIN_FILENO, &mut one);
-    got == 0
+    matches!(input.read(&mut one), Ok(0))
 }
 
 // The end of a run by a refusal of so many bytes that were read; none are not refused.
-fn end(s: Told, count: usize, refusal: u8, out: &mut [u8]) -> Told {
+fn end(
+    rt: &(impl Print + Eprint),
+    input: &mut impl Read,
+    s: Told,
+    count: usize,
+    refusal: u8,
+    out: &mut [u8],
+) -> Told {
     if count < RECORD {
-        let ended = at_end();
+        let ended = at_end(input);
         if ended {
             if count == 0 {
-                return finish(s, out);
+                return finish(rt, s, out);
             }
-            return refuse(s, refusal, out);
+            return refuse(rt, s, refusal, out);
         }
-        return fail(s, out);
+        return fail(rt, s, out);
     }
-    refuse(s, refusal, out)
+    refuse(rt, s, refusal, out)
+}
+
+// Reads until the buffer is full, the input ends or a read fails, and answers how many bytes were read.
+fn read_full(input: &mut impl Read, buf: &mut [u8]) -> usize
+    ensures { result ≤ length buf.new }
+{
+    let mut done = 0;
+    while done < buf.len() {
+        let n = input.read(&mut buf[done..]).unwrap_or(0);
+        if n == 0 {
+            break;
+        }
+        done += n;
+    }
+    done
 }
 
 // Reads one record and runs it.
-fn take_turn(w: World, s: Told, out: &mut [u8]) -> Turn {
+fn take_turn(
+    rt: &(impl Print + Eprint),
+    input: &mut impl Read,
+    w: World,
+    s: Told,
+    out: &mut [u8],
+) -> Turn {
     let mut record = [0u8; RECORD];
-    let count = io::read_full(STDIN_FILENO, &mut record);
+    let count = read_full(input, &mut record);
     let refusal = record::ending(s.number, count, &record);
     if refusal == 0 {
-        return run(w, s, record::fields(&record), out);
+        return run(rt, w, s, record::fields(&record), out);
     }
     Turn {
         world: w,
-        told: end(s, count, refusal, out),
+        told: end(rt, input, s, count, refusal, out),
     }
 }
 
@@ -202,15 +243,16 @@ fn nothing() -> Told {
     }
 }
 
-fn main() {
-    let mut out = io::large_buffer();
+fn main(rt: HostRuntime) {
+    let mut input = rt.reader();
+    let mut out = [0u8; LAID];
     let mut w = world::fresh();
     let mut s = nothing();
     let mut more = true;
     let mut turns = u64::MAX;
     while turns > 0 && more {
         turns -= 1;
-        let t = take_turn(w, s, &mut out);
+        let t = take_turn(&rt, &mut input, w, s, &mut out);
         w = t.world;
         s = t.told;
         more = s.more;

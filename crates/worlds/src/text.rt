@@ -1,5 +1,6 @@
 // Text laid into a lent buffer at a place; each function answers the place behind it. Where the buffer ends,
 // nothing more is laid.
+use itoa::Buffer;
 
 pub fn put(out: &mut [u8], at: usize, byte: u8) -> usize {
     if at < out.len() {
@@ -21,9 +22,8 @@ pub fn put_text(out: &mut [u8], at: usize, text: &[u8]) -> usize {
 
 // A number in decimal digits.
 pub fn put_number(out: &mut [u8], at: usize, number: u32) -> usize {
-    let mut digits = [0; 20];
-    let count = io::decimal(number as u64, &mut digits);
-    put_text(out, at, &digits[..count])
+    let mut digits = Buffer::new();
+    put_text(out, at, digits.format(number).as_bytes())
 }
 
 // What stands before a value: a name, the number of an object, and the sign between.
