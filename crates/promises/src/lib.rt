@@ -2,7 +2,7 @@
 // it. None asks for anything: a caller's types are enough.
 #![tactic(auto, unfolding(solo::specs::Solo::answer_of))]
 
-ghost use Rattle.std.specs.Prelude.{◌≡◌, true, false, ℕ, ◌^◌, ◌<◌, length};
+ghost use Rattle.std.specs.Prelude.{◌≡◌, true, false, ℕ, ◌^◌, ◌<◌, length, get_or};
 ghost use Rattle.calls.specs.declared.Event.TheVariants as E;
 ghost use Rattle.sound.specs.Sound.{sound_world};
 ghost use Rattle.acts.specs.Acts.{act_of};
@@ -19,6 +19,7 @@ ghost use Rattle.claims.specs.Claims.{reached, replayed, acts_run, ReplayDemand}
 ghost use Rattle.promises.specs.Promises.{one_part};
 
 use acts::Fields;
+use calls::WORDS;
 use step::Acted;
 use tally::Tally;
 use world::World;
@@ -26,6 +27,13 @@ use world::World;
 // A world value has the sizes that the theorems ask for: its arrays and its words are the type's.
 fn shaped(w: World)
     ensures { Shaped w }
+{
+    fit(w.words);
+}
+
+// Each of its words has 32 bits.
+fn fit(words: [u32; WORDS])
+    ensures { (k : ℕ) → get_or words k 0 < 2 ^ 32 }
 {}
 
 // The value of a record has 32 bits.

@@ -8,7 +8,6 @@ use Rattle.acts.proofs.Laws.{refused-same}
 use Rattle.parts.proofs.Flags.{act-flag}
 use Rattle.exact.specs.Exact.{ExactlyUnsound}
 use Rattle.exact.proofs.Proved.{nineteen-exactly}
-use borrow.Author.Rules.{rules}
 use Rattle.promises.proofs.act.Goals as goal
 
 pub returns : goal.returns

@@ -5,7 +5,6 @@ use Rattle.sound.specs.Sound.{sound_world}
 use Rattle.sound.proofs.Examples.{fresh-sound}
 use Rattle.parts.specs.Parts.{Bytes}
 use Rattle.promises.proofs.Laws.{as-replayed, demanded, world-reached}
-use borrow.Author.Rules.{rules}
 use Rattle.promises.proofs.replay.Goals as goal
 
 pub returns : goal.returns

@@ -4,7 +4,6 @@ use Rattle.replay_log.specs.Run.{state_of}
 use Rattle.parts.specs.Parts.{Bytes}
 use Rattle.parts.proofs.Acts.{unsound-run}
 use Rattle.promises.proofs.Laws.{by-acts, run-flag}
-use borrow.Author.Rules.{rules}
 use Rattle.promises.proofs.run.Goals as goal
 
 pub returns : goal.returns

@@ -9,7 +9,6 @@ use Rattle.keeps.proofs.Solo.{solo-is-acts}
 use Rattle.exact.specs.Exact.{ExactlyUnsound}
 use Rattle.exact.proofs.Proved.{solo-nineteen, solo-same}
 use Rattle.promises.proofs.Laws.{solo-flag}
-use borrow.Author.Rules.{rules}
 use Rattle.promises.proofs.solo.Goals as goal
 
 pub returns : goal.returns
