@@ -1,8 +1,6 @@
 // The replay: reads records from standard input, and writes a line for each and the tally.
 #![tactic(auto)]
 
-use libc::{STDIN_FILENO, STDOUT_FILENO};
-
-fn main() {
-    replay_io::replay(STDIN_FILENO, STDOUT_FILENO);
+fn main(rt: HostRuntime) {
+    replay_io::replay(&rt, &mut rt.stdin(), &mut rt.stdout());
 }

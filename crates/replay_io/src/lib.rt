@@ -1,22 +1,44 @@
-// The replay over open files: records are read from one, and a line for each and the tally are written to
-// another. Where reading or writing fails it says so on standard error and ends, with no tally.
+// The replay over a reader and a writer: records are read from the one, and a line for each and the tally are
+// written to the other. Where reading or writing fails it says so on standard error and ends, with no tally.
 #![tactic(auto)]
-ghost use Rattle.std.specs.Prelude.{◌≤◌, ◌≡◌, length};
 
-use libc::STDERR_FILENO;
+ghost use Rattle.std.specs.Prelude.{◌≤◌, length, IfOk};
+
 use replay_log::Stop;
+use std::fmt;
+use std::io::{Read, Write};
 use tally::Tally;
 use world::World;
+
+// The bytes of a buffer: one for the records that are read, one for their lines.
+const BUFFER: usize = 65536;
 
 // So many bytes are run at a time: their 2,400 records have room for the longest lines in 64 KiB (chunk-room, crates/parts).
 const CHUNK: usize = 24000;
 
-// What comes after a turn.
-#[derive(Drop)]
+// Why a replay ends with no tally.
+#[derive(Clone, Copy)]
+enum Failure {
+    Read,
+    Write,
+    Room,
+}
+
+impl fmt::Display for Failure {
+    fn fmt<W: fmt::Write>(&self, f: &mut fmt::Formatter<W>) -> fmt::Result {
+        f.write_str(match self {
+            Failure::Read => "the records cannot be read",
+            Failure::Write => "the lines cannot be written",
+            Failure::Room => "a line has no room",
+        })
+    }
+}
+
+// What comes after a turn that did not fail.
+#[derive(Clone, Copy)]
 enum Next {
     Read,
     Finish,
-    Fail,
 }
 
 #[derive(Drop)]
@@ -29,38 +51,29 @@ struct Turn {
     next: Next,
 }
 
-#[derive(Drop)]
-struct Filled {
-    end: usize,
-    failed: bool,
-}
-
-// One read behind the bytes that were carried over: how many bytes there are then.
-fn fill(input: i32, buf: &mut [u8], have: usize) -> Filled
+// One read behind the bytes that were carried over: how many bytes there are then. A read that a signal
+// interrupts has failed.
+fn fill<R: Read>(input: &mut R, buf: &mut [u8], have: usize) -> Result<usize, Failure>
     requires { (have ≤ 24000) × (65536 ≤ length buf.old) }
-    ensures { (have ≤ result.end) × (result.end ≤ 24000) }
+    ensures { IfOk result (λ end. (have ≤ end) × (end ≤ 24000)) }
 {
-    let got = libc::read(input, &mut buf[have..CHUNK]);
-    let n = io::count(got, &buf[have..CHUNK]);
-    Filled {
-        end: have + n,
-        failed: got < 0,
-    }
+    let n = input
+        .read(&mut buf[have..CHUNK])
+        .map_err(|_| Failure::Read)?;
+    Ok(have + n)
 }
 
-fn say(words: &[u8]) {
-    io::write_all(STDERR_FILENO, words);
+// Writes all of the lines.
+fn put<W: Write>(output: &mut W, lines: &[u8]) -> Result<(), Failure> {
+    output.write_all(lines).map_err(|_| Failure::Write)
 }
 
 // Where a run leads: on to the next read, or to the end. A run of CHUNK bytes has room for its lines.
-fn led(stop: Stop) -> Next {
+fn led(stop: Stop) -> Result<Next, Failure> {
     match stop {
-        Stop::Short => Next::Read,
-        Stop::Room => {
-            say(b"replay: a line has no room\n");
-            Next::Fail
-        }
-        Stop::Ended { number: _ } => Next::Finish,
+        Stop::Short => Ok(Next::Read),
+        Stop::Room => Err(Failure::Room),
+        Stop::Ended { number: _ } => Ok(Next::Finish),
     }
 }
 
@@ -76,120 +89,81 @@ fn kept(stop: Stop, left: usize) -> usize
 }
 
 // One read, the run over what is whole in the buffer, and its lines written.
-fn take_turn(
-    input: i32,
-    output: i32,
+fn take_turn<R: Read, W: Write>(
+    input: &mut R,
+    output: &mut W,
     w: World,
     t: Tally,
     number: u32,
     have: usize,
     buf: &mut [u8],
     out: &mut [u8],
-) -> Turn
+) -> Result<Turn, Failure>
     requires { (have ≤ 24000) × ((65536 ≤ length buf.old) × (65536 ≤ length out.old)) }
-    ensures { result.have ≤ 24000 }
+    ensures { IfOk result (λ turn. turn.have ≤ 24000) }
 {
-    let filled = fill(input, buf, have);
-    let failed = filled.failed;
-    let end = filled.end;
-    if failed {
-        say(b"replay: the records cannot be read\n");
-        return Turn {
-            world: w,
-            tally: t,
-            number: number,
-            have: have,
-            next: Next::Fail,
-        };
-    }
+    let end = fill(input, buf, have)?;
     if end == have {
-        return Turn {
+        return Ok(Turn {
             world: w,
             tally: t,
             number: number,
             have: have,
             next: Next::Finish,
-        };
+        });
     }
     let ran = replay_log::feed(w, t, number, buf, end, out);
-    let count = ran.count;
-    let reached = ran.world;
-    let tally = ran.tally;
-    let stop = ran.stop;
-    let used = ran.used;
-    let written = io::write_all(output, &out[..count]);
-    if written {
-        let left = kept(stop, end - used);
-        return Turn {
-            world: reached,
-            tally: tally,
-            number: ran.number,
-            have: left,
-            next: led(stop),
-        };
-    }
-    say(b"replay: the lines cannot be written\n");
-    Turn {
-        world: reached,
-        tally: tally,
+    put(output, &out[..ran.count])?;
+    let next = led(ran.stop)?;
+    Ok(Turn {
+        world: ran.world,
+        tally: ran.tally,
         number: ran.number,
-        have: 0,
-        next: Next::Fail,
-    }
-}
-
-fn goes_on(next: Next) -> bool {
-    match next {
-        Next::Read => true,
-        Next::Finish => false,
-        Next::Fail => false,
-    }
-}
-
-fn finishes(next: Next) -> bool {
-    match next {
-        Next::Read => false,
-        Next::Finish => true,
-        Next::Fail => false,
-    }
+        have: kept(ran.stop, end - ran.used),
+        next: next,
+    })
 }
 
 // The last lines: a refusal for bytes that are left, and the tally.
-fn finish(output: i32, t: Tally, number: u32, left: usize, out: &mut [u8]) {
+fn finish<W: Write>(
+    output: &mut W,
+    t: Tally,
+    number: u32,
+    left: usize,
+    out: &mut [u8],
+) -> Result<(), Failure> {
     let finished = replay_log::put_finish(t, number, left, out);
-    let tally = finished.tally;
-    let end = lines::put_tally(out, finished.count, tally);
+    let end = lines::put_tally(out, finished.count, finished.tally);
     let count = replay_log::within(end, out);
-    let written = io::write_all(output, &out[..count]);
-    if written {
-        return;
-    }
-    say(b"replay: the lines cannot be written\n");
+    put(output, &out[..count])
 }
 
-// Replays the records of one file into another.
-pub fn replay(input: i32, output: i32) {
-    let mut buf = io::large_buffer();
-    let mut out = io::large_buffer();
+// Turn after turn from the fresh world, and the last lines.
+fn take_turns<R: Read, W: Write>(input: &mut R, output: &mut W) -> Result<(), Failure> {
+    let mut buf = [0u8; BUFFER];
+    let mut out = [0u8; BUFFER];
     let mut w = world::fresh();
     let mut t = tally::nothing();
     let mut number: u32 = 0;
     let mut have: usize = 0;
-    let mut more = true;
-    let mut whole = false;
-    let mut turns = u64::MAX;
-    while turns > 0 && more {
-        turns -= 1;
-        let r = take_turn(input, output, w, t, number, have, &mut buf, &mut out);
-        w = r.world;
-        t = r.tally;
-        number = r.number;
-        have = r.have;
-        let next = r.next;
-        more = goes_on(next);
-        whole = finishes(next);
+    for _ in 0..u64::MAX {
+        let turn = take_turn(input, output, w, t, number, have, &mut buf, &mut out)?;
+        w = turn.world;
+        t = turn.tally;
+        number = turn.number;
+        have = turn.have;
+        match turn.next {
+            Next::Read => {}
+            Next::Finish => return finish(output, t, number, have, &mut out),
+        }
     }
-    if whole {
-        finish(output, t, number, have, &mut out);
+    Ok(())
+}
+
+// Replays the records that a reader gives into a writer.
+pub fn replay<R: Read, W: Write>(rt: &impl Eprint, input: &mut R, output: &mut W) {
+    if let Err(failure) = take_turns(input, output) {
+        // Where standard error takes no words either, there is nobody to tell.
+        let _ = eprintln!(rt; "replay: {failure}");
     }
 }

@@ -2,55 +2,59 @@
 // its lines and its tally. What it must write of the stored files was worked out by hand or is what the Rust
 // itself did (oracle/README.md).
 #![tactic(auto)]
-use libc::STDOUT_FILENO;
 
-fn say(words: &[u8]) {
-    io::write_all(libc::STDERR_FILENO, words);
+use std::env::FillError;
+use std::rt::{Env, Files};
+use std::{fs, io, str};
+
+// A path of so many bytes or more cannot be opened.
+const PATH: usize = 4096;
+
+// Where standard error takes no words, there is nobody to tell.
+fn say(rt: &impl Eprint, words: &str) {
+    let _ = rt.eprintln(words);
 }
 
 // The line above a transcript.
-fn headed(name: &[u8]) -> bool {
-    let named = io::write_all(STDOUT_FILENO, name);
-    if named {
-        return io::write_all(STDOUT_FILENO, b":\n");
-    }
-    false
+fn headed(rt: &impl Print, name: &str) -> bool {
+    println!(rt; "{name}:").is_ok()
 }
 
-fn replay_open(fd: i32, name: &[u8]) {
-    let told = headed(name);
-    if told {
-        replay_io::replay(fd, STDOUT_FILENO);
+fn replay_open<R: Print + Eprint, F: io::Read>(rt: &R, file: &mut F, name: &str) {
+    if headed(rt, name) {
+        replay_io::replay(rt, file, &mut io::writer(rt));
         return;
     }
-    say(b"transcripts: the name of a file cannot be written\n");
+    say(rt, "transcripts: the name of a file cannot be written");
 }
 
-fn replay_file(name: &[u8]) {
-    let fd = os::open_read(name);
-    if fd < 0 {
-        os::fail(name);
-        return;
+fn replay_file<R: Files + Print + Eprint>(rt: &R, name: &str) {
+    match fs::open(rt, name) {
+        Ok(mut file) => replay_open(rt, &mut file, name),
+        Err(error) => {
+            let _ = eprintln!(rt; "{name}: {error}");
+        }
     }
-    replay_open(fd, name);
-    libc::close(fd);
 }
 
-fn replay_argument(place: usize) {
-    let mut name = io::buffer();
-    let length = os::arg(place, &mut name);
-    if os::errno() != 0 {
-        os::fail(b"transcripts: the name of a file");
-        return;
+// Replays the file that an argument names, and tells whether there is such an argument.
+fn replay_argument<R: Env + Files + Print + Eprint>(rt: &R, place: usize) -> bool {
+    let mut name = [0u8; PATH];
+    match rt.arg(place, &mut name) {
+        Ok(length) => match str::from_utf8(&name[..length]) {
+            Ok(name) => replay_file(rt, name),
+            Err(_) => say(rt, "transcripts: the name of a file: Not UTF-8"),
+        },
+        Err(FillError::TooLong) => say(rt, "transcripts: the name of a file: File name too long"),
+        Err(FillError::NotPresent) => return false,
     }
-    replay_file(&name[..length]);
+    true
 }
 
-fn main() {
-    let count = os::arg_count();
-    let mut place: usize = 1;
-    while place < count {
-        replay_argument(place);
-        place += 1;
+fn main(rt: HostRuntime) {
+    for place in 1..usize::MAX {
+        if !replay_argument(&rt, place) {
+            break;
+        }
     }
 }
