@@ -146,7 +146,7 @@ step_keeps w t f =
     let place : ℕ = place_of (on_word w.threads k) w.sleepers in
     keeps-either w (ltb k WORDS) _ _
     (keeps-told w _ (tell-refusal (decide_of at f (word_at w k) (ltb place THREADS)).event _ ∙ plan-told at f (word_at w k) (ltb place THREADS)))
-    (keeps-refused w 0)
+    (keeps-refused w 19)
 
 accepted-keeps : (w : World) (a : Fields) → Keeps w (accepted_of w a)
 unfolding accepted_of set_of begin_of wake_of close_of recorded

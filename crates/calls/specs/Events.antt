@@ -78,31 +78,32 @@ abbrev pub is_set : Event → Bool
 is_set e = of_set (event_kind e)
 
 -- the events of a step that was run
-abbrev pub of_step : EventKind → Bool
-of_step a-set = false
-of_step a-begin = false
-of_step a_move = true
-of_step a-stop = true
-of_step a-wake = false
-of_step a-close = false
-of_step a-refusal = false
-
 abbrev pub is_step : Event → Bool
-is_step e = of_step (event_kind e)
+is_step E.Set = false
+is_step E.Begun = false
+is_step (E.Moved woken) = true
+is_step (E.Done value woken) = true
+is_step E.Slept = true
+is_step (E.Panic number woken) = true
+is_step E.Closure = true
+is_step E.Woken = false
+is_step E.Closed = false
+is_step (E.Refused number) = false
 
 -- a run of one thread goes on after a step that moved
-abbrev pub of_move : EventKind → Bool
-of_move a-set = false
-of_move a-begin = false
-of_move a_move = true
-of_move a-stop = false
-of_move a-wake = false
-of_move a-close = false
-of_move a-refusal = false
-
 abbrev pub goes_on : Event → Bool
-goes_on e = of_move (event_kind e)
+goes_on E.Set = false
+goes_on E.Begun = false
+goes_on (E.Moved woken) = true
+goes_on (E.Done value woken) = false
+goes_on E.Slept = false
+goes_on (E.Panic number woken) = false
+goes_on E.Closure = false
+goes_on E.Woken = false
+goes_on E.Closed = false
+goes_on (E.Refused number) = false
 
+-- the event of a refused act
 abbrev pub of_refusal : EventKind → Bool
 of_refusal a-set = false
 of_refusal a-begin = false

@@ -9,8 +9,8 @@ use lib.ListN.{length}
 use Rattle.calls.specs.declared.At.{At}
 use Rattle.calls.specs.declared.At.TheVariants as A
 use Rattle.calls.specs.declared.Event.{Event}
-use Rattle.calls.specs.Events.{tell_of, EventKind, a-set, a-begin, a_move, a-stop, a-wake, a-close, a-refusal, event_kind, of_set, is_set, of_step, is_step}
-use Rattle.calls.proofs.Events.{tell-kind}
+use Rattle.calls.specs.declared.Event.TheVariants as E
+use Rattle.calls.specs.Events.{tell_of, is_set, is_step}
 use Rattle.calls.specs.Plans.{moved, decide_of}
 use Rattle.calls.specs.Positions.{is_idle}
 use Rattle.world.specs.declared.World.{World}
@@ -31,17 +31,18 @@ use Rattle.local.proofs.Happened.{Happened, was-refused, has-set, has-begun, has
 use Rattle.claims.specs.Claims.{SetsOnly, no-set, one_set, MadeBySets}
 
 -- a step's event is no set's
-step-no-set : (k : EventKind) → of_step k ≡ true → of_set k ≡ false
-step-no-set a-set h = no_way h
-step-no-set a-begin h = refl
-step-no-set a_move h = refl
-step-no-set a-stop h = refl
-step-no-set a-wake h = refl
-step-no-set a-close h = refl
-step-no-set a-refusal h = refl
-
 tell-not-set : (e : Event) (n : ℕ) → is_step e ≡ true → is_set (tell_of e n) ≡ false
-tell-not-set e n h = ap of_set (tell-kind e n) ∙ step-no-set (event_kind e) h
+unfolding tell_of
+tell-not-set E.Set n h = no_way h
+tell-not-set E.Begun n h = no_way h
+tell-not-set (E.Moved woken) n h = refl
+tell-not-set (E.Done value woken) n h = refl
+tell-not-set E.Slept n h = refl
+tell-not-set (E.Panic number woken) n h = refl
+tell-not-set E.Closure n h = refl
+tell-not-set E.Woken n h = no_way h
+tell-not-set E.Closed n h = no_way h
+tell-not-set (E.Refused number) n h = no_way h
 
 -- a plan tells a step's event, of an idle thread too
 plan-told : (at : At) (f : Bool) (word : ℕ) (a : Bool) → is_step (decide_of at f word a).event ≡ true

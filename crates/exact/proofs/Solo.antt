@@ -27,20 +27,6 @@ use Rattle.calls.specs.Events.{is_step}
 use Rattle.keeps.specs.Solo.{Ended, by-budget, by-stop}
 use Rattle.keeps.proofs.Solo.{solo-row}
 
--- a stop with 19 is a refusal with 19: events that no step tells have another number
-stop-nineteen : (e : Event) → stop_of e ≡ S.Refused 19 → e ≡ E.Refused 19
-unfolding stop_of
-stop-nineteen E.Set h = let z : ◌≡◌ {A = ℕ} 0 19 = cc in absurd (omega arith)
-stop-nineteen E.Begun h = let z : ◌≡◌ {A = ℕ} 0 19 = cc in absurd (omega arith)
-stop-nineteen (E.Moved woken) h = let z : ◌≡◌ {A = ℕ} 0 1 = cc in absurd (omega arith)
-stop-nineteen (E.Done value woken) h = let z : ◌≡◌ {A = ℕ} 0 1 = cc in absurd (omega arith)
-stop-nineteen E.Slept h = let z : ◌≡◌ {A = ℕ} 0 1 = cc in absurd (omega arith)
-stop-nineteen (E.Panic number woken) h = let z : ◌≡◌ {A = ℕ} 0 1 = cc in absurd (omega arith)
-stop-nineteen E.Closure h = let z : ◌≡◌ {A = ℕ} 0 1 = cc in absurd (omega arith)
-stop-nineteen E.Woken h = let z : ◌≡◌ {A = ℕ} 0 19 = cc in absurd (omega arith)
-stop-nineteen E.Closed h = let z : ◌≡◌ {A = ℕ} 0 19 = cc in absurd (omega arith)
-stop-nineteen (E.Refused number) h = let z : number ≡ 19 = cc in ap E.Refused z
-
 Below : ℕ → Type 0
 Below n = n < 19
 
@@ -69,8 +55,10 @@ not-refused E.Woken n s h = no_way s
 not-refused E.Closed n s h = no_way s
 not-refused (E.Refused number) n s h = no_way s
 
-refused-run : (r : Ran) (w : World) (n : ℕ) → r ≡ refused_run n w → n < 19 → r.event ≢ E.Refused 19
-refused-run r w n e h q = let f : r.event ≡ E.Refused n = ap (λ (x : Ran). x.event) e in let z : n ≡ 19 = cc in omega arith
+refused-run : (r : Ran) (w : World) (n : ℕ) → r ≡ refused_run n w → n < 19 → stop_of r.event ≢ S.Refused 19
+unfolding stop_of
+refused-run r w n e h q =
+    let f : stop_of r.event ≡ S.Refused n = ap (λ (x : Ran). stop_of x.event) e in let z : n ≡ 19 = cc in omega arith
 
 -- a run of a thread that may be stepped tells a step's event
 let_go :
@@ -81,13 +69,14 @@ let_go w t budget s e p q =
     (solo-row w t budget
     (record { sound = e; shaped = s; there = ltb-true t THREADS p; allowed = eqb-true (step_refusal (thread_at w t) 0) 0 q })).ended
 
-solo-told : (w : World) (t budget : ℕ) → Shaped w → sound_world w ≡ true → (solo_of w t budget).event ≢ E.Refused 19
+solo-told : (w : World) (t budget : ℕ) → Shaped w → sound_world w ≡ true → stop_of (solo_of w t budget).event ≢ S.Refused 19
 unfolding solo_of
 solo-told w t budget s e = by (ltb t THREADS) (eqb (step_refusal (thread_at w t) 0) 0) refl refl
   where
-    by : (b d : Bool) → ltb t THREADS ≡ b → eqb (step_refusal (thread_at w t) 0) 0 ≡ d → (solo_of w t budget).event ≢ E.Refused 19
-    by true true p q =
-        λ z. no_way (sym (ap is_step z) ∙ let_go w t budget s e p q)
+    by :
+        (b d : Bool) → ltb t THREADS ≡ b → eqb (step_refusal (thread_at w t) 0) 0 ≡ d →
+        stop_of (solo_of w t budget).event ≢ S.Refused 19
+    by true true p q = not-refused (solo_of w t budget).event 19 (let_go w t budget s e p q)
     by true false p q =
         refused-run (solo_of w t budget) w (step_refusal (thread_at w t) 0) (rw (e, p, q)) (step-below (thread_at w t))
     by false d p q = refused-run (solo_of w t budget) w 2 (rw (e, p)) (omega arith)
@@ -103,11 +92,11 @@ pub solo-nineteen :
     × (sound_world w ≡ false → (answer_of (solo_of w t budget)).stop ≡ S.Refused 19)
 unfolding answer_of stop_of
 solo-nineteen w t budget s = (
-  λ h. by (sound_world w) refl (stop-nineteen (solo_of w t budget).event h),
+  λ h. by (sound_world w) refl h,
   λ e. ap (λ (r : Ran). stop_of r.event) (unsound-solo w t budget e),
 )
   where
-    by : (c : Bool) → sound_world w ≡ c → (solo_of w t budget).event ≡ E.Refused 19 → sound_world w ≡ false
+    by : (c : Bool) → sound_world w ≡ c → stop_of (solo_of w t budget).event ≡ S.Refused 19 → sound_world w ≡ false
     by true e q = absurd (solo-told w t budget s e q)
     by false e q = e
 

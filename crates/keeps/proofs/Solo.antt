@@ -14,10 +14,10 @@ use Rattle.queue.specs.Row.{THREADS, place_of}
 use Rattle.calls.specs.declared.At.{At}
 use Rattle.calls.specs.declared.At.TheVariants as A
 use Rattle.calls.specs.declared.Event.{Event}
+use Rattle.calls.specs.declared.Event.TheVariants as E
 use Rattle.calls.specs.declared.Plan.{Plan}
 use Rattle.calls.specs.declared.Thread.{Thread}
-use Rattle.calls.specs.Events.{value_of, woken_of, tell_of, goes_on, is_step, of_step, of_move}
-use Rattle.calls.proofs.Events.{tell-kind}
+use Rattle.calls.specs.Events.{value_of, woken_of, tell_of, goes_on, is_step}
 use Rattle.calls.specs.Objects.{WORDS}
 use Rattle.calls.specs.Plans.{decide_of}
 use Rattle.calls.specs.Positions.{operand_of, in_closure, is_idle}
@@ -72,10 +72,30 @@ not-idle at e q = no_way (sym e ∙ ap is_idle q)
 
 -- the sleepers told do not change what kind of event it is
 tell-step : (e : Event) (n : ℕ) → is_step (tell_of e n) ≡ is_step e
-tell-step e n = ap of_step (tell-kind e n)
+unfolding tell_of
+tell-step E.Set n = refl
+tell-step E.Begun n = refl
+tell-step (E.Moved woken) n = refl
+tell-step (E.Done value woken) n = refl
+tell-step E.Slept n = refl
+tell-step (E.Panic number woken) n = refl
+tell-step E.Closure n = refl
+tell-step E.Woken n = refl
+tell-step E.Closed n = refl
+tell-step (E.Refused number) n = refl
 
 tell-goes-on : (e : Event) (n : ℕ) → goes_on (tell_of e n) ≡ goes_on e
-tell-goes-on e n = ap of_move (tell-kind e n)
+unfolding tell_of
+tell-goes-on E.Set n = refl
+tell-goes-on E.Begun n = refl
+tell-goes-on (E.Moved woken) n = refl
+tell-goes-on (E.Done value woken) n = refl
+tell-goes-on E.Slept n = refl
+tell-goes-on (E.Panic number woken) n = refl
+tell-goes-on E.Closure n = refl
+tell-goes-on E.Woken n = refl
+tell-goes-on E.Closed n = refl
+tell-goes-on (E.Refused number) n = refl
 
 module _ (w : World) (t : ℕ) (s : Steppable w t) where
   -- the act is the step

@@ -112,7 +112,7 @@ module _ (w : World) (t : ℕ) (fails : Bool) (is-thread : t < THREADS) where
       names_exist w ≡ true → needs_held w ≡ true → needs_held (step_of w t fails).world ≡ true
   unfolding step_of apply_plan
   step-needs long locked-long ws-long rs-long names e =
-      decided (λ (x : Acted). needs_held x.world ≡ true) (ltb (operand_of t at) WORDS) (apply_plan w t (operand_of t at) place own) (refused 0 w)
+      decided (λ (x : Acted). needs_held x.world ≡ true) (ltb (operand_of t at) WORDS) (apply_plan w t (operand_of t at) place own) (refused 19 w)
       (λ q. subst (λ (n : ℕ). needs_held (own_plan woken t (operand_of t at) (decide_of at fails n (ltb place THREADS))) ≡ true)
       (ap (λ (l : List ℕ). get_or l (operand_of t at) 0) same.words_are)
       (own-needs woken t at fails (ltb place THREADS) is-thread (ltb-true (operand_of t at) WORDS q)

@@ -143,7 +143,7 @@ module _
     pub step-mutexes : length w.locked ≡ MUTEXHOLDS → mutexes_agree w ≡ true → mutexes_agree (step_of w t fails).world ≡ true
     unfolding step_of apply_plan
     step-mutexes l e =
-        decided (λ (x : Acted). mutexes_agree x.world ≡ true) (ltb (operand_of t at) WORDS) (apply_plan w t (operand_of t at) place own) (refused 0 w)
+        decided (λ (x : Acted). mutexes_agree x.world ≡ true) (ltb (operand_of t at) WORDS) (apply_plan w t (operand_of t at) place own) (refused 19 w)
         (λ q. after-mutexes w (wakes_of w (operand_of t at) place own.wake).world (wakes-same w (operand_of t at) place own.wake) t at fails
         (ltb place THREADS) is-thread (ltb-true (operand_of t at) WORDS q) words_long held l e)
         (λ q. e)
@@ -153,7 +153,7 @@ module _
         word_at w (operand_of t (thread_at w t).at) < 2 ^ 32 → locks_agree w ≡ true → locks_agree (step_of w t fails).world ≡ true
     unfolding step_of apply_plan
     step-locks l r passed wide e =
-        decided (λ (x : Acted). locks_agree x.world ≡ true) (ltb (operand_of t at) WORDS) (apply_plan w t (operand_of t at) place own) (refused 0 w)
+        decided (λ (x : Acted). locks_agree x.world ≡ true) (ltb (operand_of t at) WORDS) (apply_plan w t (operand_of t at) place own) (refused 19 w)
         (λ q. after-locks w (wakes_of w (operand_of t at) place own.wake).world (wakes-same w (operand_of t at) place own.wake) t at fails
         (ltb place THREADS) is-thread (ltb-true (operand_of t at) WORDS q) words_long held l r passed wide e)
         (λ q. e)

@@ -8,7 +8,7 @@ abbrev pub locked_new : List Bool → ℕ → ℕ → Hold → List Bool
 locked_new locked t object hold = set locked (mutex_slot t object) (locked_after hold (get_or locked (mutex_slot t object) false))
 
 abbrev pub written_new : List Bool → ℕ → ℕ → Hold → List Bool
-written_new written t object hold = set written (lock_slot t object) (written_after hold (get_or written (lock_slot t object) false))
+written_new ws t object hold = set ws (lock_slot t object) (written_after hold (get_or ws (lock_slot t object) false))
 
 abbrev pub reads_new : List ℕ → ℕ → ℕ → Hold → List ℕ
-reads_new reads t object hold = set reads (lock_slot t object) (reads_after hold (get_or reads (lock_slot t object) 0))
+reads_new rs t object hold = set rs (lock_slot t object) (reads_after hold (get_or rs (lock_slot t object) 0))

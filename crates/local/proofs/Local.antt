@@ -176,7 +176,7 @@ step_local w v t f ew ev sw sv agree awake = by (ltb (word_next w t) WORDS) refl
     next : word_next w t ≡ word_next v t
     next = same_next w v t agree
 
-    none : (x : World) → ltb (word_next x t) WORDS ≡ false → step_of x t f ≡ refused 0 x
+    none : (x : World) → ltb (word_next x t) WORDS ≡ false → step_of x t f ≡ refused 19 x
     none x e = sym (not-stepped x t f (thread_at x t) (word_next x t) refl refl e)
 
     by : (c : Bool) → ltb (word_next w t) WORDS ≡ c → Alike w v t (word_next w t) (step_of w t f) (step_of v t f)
@@ -189,7 +189,7 @@ step_local w v t f ew ev sw sv agree awake = by (ltb (word_next w t) WORDS) refl
         (same-woken w v t agree f) (same-plan w v t agree f)
         (stepped v t f ev sv (sym (ap (λ (th : Thread). th.asleep) agree.same-record) ∙ awake) (subst (λ (x : ℕ). x < WORDS) next h)))
     by false e =
-        rw (none w e, none v (rw next at e)) (refused-alike w v t (word_next w t) 0 agree)
+        rw (none w e, none v (rw next at e)) (refused-alike w v t (word_next w t) 19 agree)
 
 -- every step act, accepted or refused: two sound worlds that agree on its part give the same event, and agree on it after the act
 pub act-local : ActLocal

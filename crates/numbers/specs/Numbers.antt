@@ -7,7 +7,6 @@ use Rattle.calls.specs.Events.{value_of}
 use Rattle.world.specs.declared.World.{World}
 use Rattle.world.specs.World.{fresh_world, word_at}
 use Rattle.acts.specs.declared.Fields.{Fields}
-use Rattle.acts.specs.Refusals.{SET, BEGIN}
 use Rattle.acts.specs.Acts.{act_of}
 use Rattle.acts.proofs.Machine.{machine}
 use Rattle.solo.specs.Run.{run_from, solo_of}
@@ -61,69 +60,25 @@ unfoldable pub lead : Led → List Move → Led
 lead l [] = l
 lead l (m ∷ ms) = let n = move l.world m in lead (record { accepted = l.accepted && n.accepted; world = n.world }) ms
 
--- a call begun by a thread, on object 0; the reads that RwLock 0 has forgotten
-abbrev pub begin : ℕ → ℕ → Move
-begin call thread = Does (record { act = BEGIN; choice = call; thread = thread; object = 0; value = 0 })
-
-abbrev pub lock : ℕ → Move
-lock thread = begin 0 thread
-
-abbrev pub read : ℕ → Move
-read thread = begin 3 thread
-
-abbrev pub try-read : ℕ → Move
-try-read thread = begin 4 thread
-
-abbrev pub write : ℕ → Move
-write thread = begin 6 thread
-
-abbrev pub downgrade : ℕ → Move
-downgrade thread = begin 9 thread
-
-abbrev pub park : ℕ → Move
-park thread = begin 18 thread
-
-abbrev pub unpark-0 : ℕ → Move
-unpark-0 thread = begin 19 thread
-
-abbrev pub forget : ℕ → Move
-forget reads = Does (record { act = SET; choice = 0; thread = 0; object = 0; value = reads })
-
--- what a run tells: the event's name and value, and the steps to it; and a word by its number, before the run and after it
-pub record Told : Type 0 where
-  pub name : ℕ
-  pub value : ℕ
-  pub count : ℕ
-
-abbrev pub told : ℕ → ℕ → ℕ → Told
-told name value count = record { name = name; value = value; count = count }
-
-pub record Word : Type 0 where
-  pub number : ℕ
-  pub before : ℕ
-  pub after : ℕ
-
-abbrev pub word : ℕ → ℕ → ℕ → Word
-word number before after = record { number = number; before = before; after = after }
-
--- a thread run alone: after which moves, under which budget, to what, and what becomes of a word
+-- a thread run alone: from which world, under which budget, to which event in how many steps; and a word before and after
 pub record Case : Type 0 where
   pub moves : List Move
   pub thread : ℕ
   pub budget : ℕ
-  pub tells : Told
-  pub has : Word
-
-abbrev pub case : List Move → ℕ → ℕ → Told → Word → Case
-case moves thread budget tells has = record { moves = moves; thread = thread; budget = budget; tells = tells; has = has }
+  pub name : ℕ
+  pub value : ℕ
+  pub count : ℕ
+  pub word : ℕ
+  pub before : ℕ
+  pub after : ℕ
 
 abbrev pub right : Case → Bool
 right c =
     let l = lead (record { accepted = true; world = fresh_world }) c.moves in
     let r = solo_of l.world c.thread c.budget in
-    l.accepted && sound_world l.world && eqb (word_at l.world c.has.number) c.has.before
-    && eqb (name_of r.event) c.tells.name && eqb (value_of r.event) c.tells.value && eqb r.count c.tells.count
-    && eqb (word_at r.world c.has.number) c.has.after
+    l.accepted && sound_world l.world && eqb (word_at l.world c.word) c.before
+    && eqb (name_of r.event) c.name && eqb (value_of r.event) c.value && eqb r.count c.count
+    && eqb (word_at r.world c.word) c.after
 
 unfoldable pub every : List Case → Bool
 every [] = true
@@ -133,31 +88,31 @@ every (c ∷ cs) = right c && every cs
 abbrev pub cases : List Case
 cases =
     -- P1 lock at 0
-    case (lock 0 ∷ []) 0 200 (told DONE 1 1) (word 0 0x0 0x1) ∷
+    record { moves = Does (record { act = 1; choice = 0; thread = 0; object = 0; value = 0 }) ∷ []; thread = 0; budget = 200; name = DONE; value = 1; count = 1; word = 0; before = 0x0; after = 0x1 } ∷
     -- P2 lock at 2, held
-    case (lock 0 ∷ Runs 0 ∷ lock 1 ∷ Runs 1 ∷ lock 2 ∷ []) 2 200 (told SLEPT 0 3) (word 0 0x2 0x2) ∷
+    record { moves = Does (record { act = 1; choice = 0; thread = 0; object = 0; value = 0 }) ∷ Runs 0 ∷ Does (record { act = 1; choice = 0; thread = 1; object = 0; value = 0 }) ∷ Runs 1 ∷ Does (record { act = 1; choice = 0; thread = 2; object = 0; value = 0 }) ∷ []; thread = 2; budget = 200; name = SLEPT; value = 0; count = 3; word = 0; before = 0x2; after = 0x2 } ∷
     -- P3 lock at 1
-    case (lock 0 ∷ Runs 0 ∷ lock 1 ∷ []) 1 200 (told SLEPT 0 104) (word 0 0x1 0x2) ∷
+    record { moves = Does (record { act = 1; choice = 0; thread = 0; object = 0; value = 0 }) ∷ Runs 0 ∷ Does (record { act = 1; choice = 0; thread = 1; object = 0; value = 0 }) ∷ []; thread = 1; budget = 200; name = SLEPT; value = 0; count = 104; word = 0; before = 0x1; after = 0x2 } ∷
     -- P4 read at MASK
-    case (write 0 ∷ Runs 0 ∷ read 1 ∷ []) 1 200 (told SLEPT 0 104) (word 4 0x3fffffff 0x7fffffff) ∷
+    record { moves = Does (record { act = 1; choice = 6; thread = 0; object = 0; value = 0 }) ∷ Runs 0 ∷ Does (record { act = 1; choice = 3; thread = 1; object = 0; value = 0 }) ∷ []; thread = 1; budget = 200; name = SLEPT; value = 0; count = 104; word = 4; before = 0x3fffffff; after = 0x7fffffff } ∷
     -- P5 read at 0x80000001
-    case (read 0 ∷ Runs 0 ∷ write 1 ∷ Runs 1 ∷ read 2 ∷ []) 2 200 (told SLEPT 0 4) (word 4 0x80000001 0xc0000001) ∷
+    record { moves = Does (record { act = 1; choice = 3; thread = 0; object = 0; value = 0 }) ∷ Runs 0 ∷ Does (record { act = 1; choice = 6; thread = 1; object = 0; value = 0 }) ∷ Runs 1 ∷ Does (record { act = 1; choice = 3; thread = 2; object = 0; value = 0 }) ∷ []; thread = 2; budget = 200; name = SLEPT; value = 0; count = 4; word = 4; before = 0x80000001; after = 0xc0000001 } ∷
     -- P6 write at MASK
-    case (write 0 ∷ Runs 0 ∷ write 1 ∷ []) 1 200 (told SLEPT 0 106) (word 4 0x3fffffff 0xbfffffff) ∷
+    record { moves = Does (record { act = 1; choice = 6; thread = 0; object = 0; value = 0 }) ∷ Runs 0 ∷ Does (record { act = 1; choice = 6; thread = 1; object = 0; value = 0 }) ∷ []; thread = 1; budget = 200; name = SLEPT; value = 0; count = 106; word = 4; before = 0x3fffffff; after = 0xbfffffff } ∷
     -- P7 read at MAX_READERS - 1
-    case (forget 0x3ffffffd ∷ read 0 ∷ []) 0 200 (told DONE 1 2) (word 4 0x3ffffffd 0x3ffffffe) ∷
+    record { moves = Does (record { act = 0; choice = 0; thread = 0; object = 0; value = 1073741821 }) ∷ Does (record { act = 1; choice = 3; thread = 0; object = 0; value = 0 }) ∷ []; thread = 0; budget = 200; name = DONE; value = 1; count = 2; word = 4; before = 0x3ffffffd; after = 0x3ffffffe } ∷
     -- P8 read at MAX_READERS
-    case (forget 0x3ffffffe ∷ read 0 ∷ []) 0 200 (told PANIC 1 2) (word 4 0x3ffffffe 0x3ffffffe) ∷
+    record { moves = Does (record { act = 0; choice = 0; thread = 0; object = 0; value = 1073741822 }) ∷ Does (record { act = 1; choice = 3; thread = 0; object = 0; value = 0 }) ∷ []; thread = 0; budget = 200; name = PANIC; value = 1; count = 2; word = 4; before = 0x3ffffffe; after = 0x3ffffffe } ∷
     -- P9 try_read there
-    case (forget 0x3ffffffe ∷ try-read 0 ∷ []) 0 200 (told DONE 0 1) (word 4 0x3ffffffe 0x3ffffffe) ∷
+    record { moves = Does (record { act = 0; choice = 0; thread = 0; object = 0; value = 1073741822 }) ∷ Does (record { act = 1; choice = 4; thread = 0; object = 0; value = 0 }) ∷ []; thread = 0; budget = 200; name = DONE; value = 0; count = 1; word = 4; before = 0x3ffffffe; after = 0x3ffffffe } ∷
     -- P10 the first step of downgrade
-    case (write 0 ∷ Runs 0 ∷ read 1 ∷ Runs 1 ∷ write 2 ∷ Runs 2 ∷ downgrade 0 ∷ []) 0 1 (told MOVED 0 1) (word 4 0xffffffff 0xc0000001) ∷
+    record { moves = Does (record { act = 1; choice = 6; thread = 0; object = 0; value = 0 }) ∷ Runs 0 ∷ Does (record { act = 1; choice = 3; thread = 1; object = 0; value = 0 }) ∷ Runs 1 ∷ Does (record { act = 1; choice = 6; thread = 2; object = 0; value = 0 }) ∷ Runs 2 ∷ Does (record { act = 1; choice = 9; thread = 0; object = 0; value = 0 }) ∷ []; thread = 0; budget = 1; name = MOVED; value = 0; count = 1; word = 4; before = 0xffffffff; after = 0xc0000001 } ∷
     -- P10 and the second
-    case (write 0 ∷ Runs 0 ∷ read 1 ∷ Runs 1 ∷ write 2 ∷ Runs 2 ∷ downgrade 0 ∷ []) 0 2 (told MOVED 0 2) (word 4 0xffffffff 0x80000001) ∷
+    record { moves = Does (record { act = 1; choice = 6; thread = 0; object = 0; value = 0 }) ∷ Runs 0 ∷ Does (record { act = 1; choice = 3; thread = 1; object = 0; value = 0 }) ∷ Runs 1 ∷ Does (record { act = 1; choice = 6; thread = 2; object = 0; value = 0 }) ∷ Runs 2 ∷ Does (record { act = 1; choice = 9; thread = 0; object = 0; value = 0 }) ∷ []; thread = 0; budget = 2; name = MOVED; value = 0; count = 2; word = 4; before = 0xffffffff; after = 0x80000001 } ∷
     -- P11 park at 1
-    case (unpark-0 1 ∷ Runs 1 ∷ park 0 ∷ []) 0 200 (told DONE 1 1) (word 20 0x1 0x0) ∷
+    record { moves = Does (record { act = 1; choice = 19; thread = 1; object = 0; value = 0 }) ∷ Runs 1 ∷ Does (record { act = 1; choice = 18; thread = 0; object = 0; value = 0 }) ∷ []; thread = 0; budget = 200; name = DONE; value = 1; count = 1; word = 20; before = 0x1; after = 0x0 } ∷
     -- P12 park at 0
-    case (park 0 ∷ []) 0 200 (told SLEPT 0 2) (word 20 0x0 0xffffffff) ∷
+    record { moves = Does (record { act = 1; choice = 18; thread = 0; object = 0; value = 0 }) ∷ []; thread = 0; budget = 200; name = SLEPT; value = 0; count = 2; word = 20; before = 0x0; after = 0xffffffff } ∷
     []
 
 pub numbers : T (every cases)

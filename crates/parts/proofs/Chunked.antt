@@ -16,14 +16,14 @@ use Rattle.replay_log.specs.declared.Stop.{Stop}
 use Rattle.replay_log.specs.declared.Stop.TheVariants as S
 use Rattle.replay_log.specs.Run.{LAST, fields_of, mark_of, State, Run, last_line, turn_of, ending_of, record_line, record_state, run_of}
 use Rattle.replay_log.proofs.Unroll.{runs-out, unroll, turn-goes, turn-ends}
-use Rattle.parts.specs.Parts.{is_room, has_ended, Bytes, part_run, Part, AllRoomy, no_part, one-part, BUFFER, buffered, Chunks, no_chunk, one_chunk, bytes_of, Reached, after, parts_from}
+use Rattle.parts.specs.Parts.{is_room, has_ended, Bytes, part_run, Part, AllHaveRoom, no_part, one-part, BUFFER, buffered, Chunks, no_chunk, one_chunk, bytes_of, Reached, after, parts_from}
 use Rattle.parts.proofs.Turns.{by-tens, by-records}
 use Rattle.parts.proofs.Small.{line-short, answer-small, ending-small}
 use Rattle.parts.proofs.Rooms.{few-left, next-number}
 use Rattle.parts.specs.Flags.{Kept}
 use Rattle.parts.proofs.Flags.{record-keeps, run-keeps, bytes_drop, bytes_back, bytes-front, bytes-join}
 use Rattle.parts.proofs.Joined.{told-in-parts}
-use Rattle.parts.specs.Statements.{ChunkRoom, ToldInReads, ToldInChunks}
+use Rattle.parts.specs.Statements.{ChunkRoom, ToldInRooms, ToldInChunks}
 
 -- a record that is answered has a number, and so has what comes behind it
 answered-below : (number : ℕ) (l : List ℕ) → ending_of number l ≡ 0 → number ≤ LAST → number + 1 ≤ LAST
@@ -95,12 +95,12 @@ chunk-room l s shaped bytes n h =
     short-room (sound_world s.world) l BUFFER s bytes (record { shaped = shaped; flag = refl }) n (omega arith)
 
 -- parts that each have room for their lines never want room
-roomy-runs :
+rooms-run :
     (stop : Stop) (left : List ℕ) (s : State) (parts : List Part) → is_room stop ≡ false → length left < 10 → Shaped s.world →
-    Bytes left → Bytes (bytes_of parts) → s.number ≤ LAST → AllRoomy parts → is_room (parts_from stop left s parts).run.stop ≡ false
+    Bytes left → Bytes (bytes_of parts) → s.number ≤ LAST → AllHaveRoom parts → is_room (parts_from stop left s parts).run.stop ≡ false
 unfolding parts_from bytes_of
-roomy-runs stop left s [] e h shaped bytes more n no_part = e
-roomy-runs stop left s (p ∷ parts) e h shaped bytes more n (one-part fits rooms) =
+rooms-run stop left s [] e h shaped bytes more n no_part = e
+rooms-run stop left s (p ∷ parts) e h shaped bytes more n (one-part fits rooms) =
     let l : List ℕ = left ++ p.bytes in
     let sound : Bool = sound_world s.world in
     let r : Run = part_run p.room l s in
@@ -112,18 +112,18 @@ roomy-runs stop left s (p ∷ parts) e h shaped bytes more n (one-part fits room
     (record { run = r; left = drop r.used l })
     (after r (parts_from r.stop (drop r.used l) r.state parts))
     (λ z. f)
-    (λ z. roomy-runs r.stop (drop r.used l) r.state parts f (few-left sound p.room l s z f).1
+    (λ z. rooms-run r.stop (drop r.used l) r.state parts f (few-left sound p.room l s z f).1
     (run-keeps p.room l s shaped here).shaped (bytes_drop r.used l here) (bytes_back p.bytes (bytes_of parts) more)
     (numbers-last sound p.room l s n) rooms)
 
-pub told-in-reads : ToldInReads
-told-in-reads s parts shaped bytes n rooms =
-    told-in-parts s parts shaped bytes (roomy-runs S.Short [] s parts refl (omega arith) shaped (λ k. omega arith) bytes n rooms)
+pub told-in-rooms : ToldInRooms
+told-in-rooms s parts shaped bytes n rooms =
+    told-in-parts s parts shaped bytes (rooms-run S.Short [] s parts refl (omega arith) shaped (λ k. omega arith) bytes n rooms)
 
 -- The replay's own reads: whatever their lengths up to CHUNK, the transcript is that of the log in one piece.
-chunks-roomy : {reads : List (List ℕ)} → Chunks reads → AllRoomy (map buffered reads)
+chunks-roomy : {reads : List (List ℕ)} → Chunks reads → AllHaveRoom (map buffered reads)
 chunks-roomy no_chunk = no_part
 chunks-roomy (one_chunk {read} h chunks) = one-part {p = buffered read} (omega arith) (chunks-roomy chunks)
 
 pub told-in-chunks : ToldInChunks
-told-in-chunks s reads shaped bytes n chunks = told-in-reads s (map buffered reads) shaped bytes n (chunks-roomy chunks)
+told-in-chunks s reads shaped bytes n chunks = told-in-rooms s (map buffered reads) shaped bytes n (chunks-roomy chunks)

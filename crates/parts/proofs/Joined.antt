@@ -5,7 +5,7 @@ use native.Mathlib.Nat.{sub-zero}
 use native.Mathlib.Omega.{arith}
 use mathlib.Core.Path.{◌≡◌, refl, sym, ap, subst, ◌∙◌}
 use mathlib.Core.Bool.{Bool, true, false, cond}
-use mathlib.Core.List.{List, [], ◌∷◌, ◌++◌, append_assoc, append-nil}
+use mathlib.Core.List.{List, [], ◌∷◌, ◌++◌, map, append_assoc, append-nil}
 use lib.ListN.{length, drop, get_or, length-append, get_or-append}
 use lib.Seq.{drop-drop, drop-append-le}
 use borrow.Author.Tests.{leb-true, le-leb}
@@ -13,17 +13,17 @@ use Rattle.lines.specs.Lines.{line_of}
 use Rattle.sound.specs.Sound.{sound_world}
 use Rattle.acts.specs.declared.Fields.{Fields}
 use Rattle.kept.specs.Shape.{Shaped}
-use Rattle.kept.proofs.Tests.{no_way}
+use Rattle.kept.proofs.Tests.{no_way, decided}
 use Rattle.replay_log.specs.declared.Stop.{Stop}
 use Rattle.replay_log.specs.declared.Stop.TheVariants as S
 use Rattle.replay_log.specs.Run.{fields_of, mark_of, State, answer_of, noted, Run, stopped, prefixed, ending_of, last_line, turn_of, record_line, record_state, run_of}
 use Rattle.replay_log.proofs.Unroll.{prefixed-none, prefixed-twice, runs-out, unroll, turn-goes, turn-ends}
-use Rattle.parts.specs.Parts.{is_room, has_ended, Bytes, part_run, ample, whole_run, Part, bytes_of, Reached, after, parts_from, in_parts, in_one_piece, left_refusal, told_with, told_of}
+use Rattle.parts.specs.Parts.{is_room, has_ended, Bytes, part_run, ample, whole_run, Part, roomy, bytes_of, Reached, after, parts_from, in_parts, in_one_piece, left_refusal, told_with, told_of}
 use Rattle.parts.proofs.Turns.{by-records}
 use Rattle.parts.proofs.Rooms.{lines_fit, used-within, more_room, ample-room, enough-room, few-left}
 use Rattle.parts.proofs.Flags.{bytes_drop, bytes_back, bytes-front, bytes-join, run-keeps}
 use Rattle.parts.specs.Joined.{AsOne}
-use Rattle.parts.specs.Statements.{RunInParts, ToldInParts, ReadsAgree}
+use Rattle.parts.specs.Statements.{RunInParts, ToldInParts, ReadsAgree, ToldInReads}
 
 -- a record is read from the first ten bytes, whatever stands behind them
 module _ (l more : List ℕ) (h : 10 ≤ length l) where
@@ -264,3 +264,23 @@ pub reads-agree : ReadsAgree
 reads-agree s one two shaped bytes e f g =
     told-in-parts s one shaped bytes f
     ∙ (ap (λ (log : List ℕ). told_of (in_one_piece s log)) e ∙ sym (told-in-parts s two shaped (subst Bytes e bytes) g))
+
+-- Reads that each have room for their lines never want room.
+roomy-runs :
+    (stop : Stop) (left : List ℕ) (s : State) (reads : List (List ℕ)) → is_room stop ≡ false → length left < 10 →
+    is_room (parts_from stop left s (map roomy reads)).run.stop ≡ false
+unfolding parts_from
+roomy-runs stop left s [] e h = e
+roomy-runs stop left s (read ∷ reads) e h =
+    let l : List ℕ = left ++ read in
+    let room : ℕ = (roomy read).room in
+    let r : Run = part_run room l s in
+    let f : is_room r.stop ≡ false = ample-room (sound_world s.world) room l s (omega (arith, length-append left read)) in
+    decided (λ (a : Reached). is_room a.run.stop ≡ false) (has_ended r.stop)
+    (record { run = r; left = drop r.used l })
+    (after r (parts_from r.stop (drop r.used l) r.state (map roomy reads)))
+    (λ z. f)
+    (λ z. roomy-runs r.stop (drop r.used l) r.state reads f (few-left (sound_world s.world) room l s z f).1)
+
+pub told-in-reads : ToldInReads
+told-in-reads s reads shaped bytes = told-in-parts s (map roomy reads) shaped bytes (roomy-runs S.Short [] s reads refl (omega arith))

@@ -91,7 +91,7 @@ module _ (w : World) (s : Shaped w) where
       let p = decide_of at f (word_at w k) (ltb place THREADS) in
       either Answer (ltb k WORDS) _ _
       (tell-small p.event (wakes_of w k place p.wake).count (plan-told at f (word_at w k) (ltb place THREADS)) (woken-few w k place p.wake s))
-      (refused-small 0 refl)
+      (refused-small 19 refl)
 
   -- an accepted act
   accepted-small : (a : Fields) → Answer (accepted_of w a)

@@ -46,14 +46,18 @@ pub record Part : Type 0 where
   pub bytes : List ℕ
   pub room : ℕ
 
+-- a read with room for its lines, those of the fewer than ten bytes left before it too
+abbrev pub roomy : List ℕ → Part
+roomy read = record { bytes = read; room = LONGEST * (length read / 10 + 2) }
+
 -- room for the lines of records that have numbers, those of the fewer than ten bytes left before the part too
-abbrev pub Roomy : Part → Type 0
-Roomy p = LINE * (length p.bytes / 10 + 2) ≤ p.room
+abbrev pub HasRoom : Part → Type 0
+HasRoom p = LINE * (length p.bytes / 10 + 2) ≤ p.room
 
 -- .. of every part
-pub data AllRoomy : List Part → Type 0 where
-  no_part : AllRoomy []
-  one-part : {p : Part} {parts : List Part} → Roomy p → AllRoomy parts → AllRoomy (p ∷ parts)
+pub data AllHaveRoom : List Part → Type 0 where
+  no_part : AllHaveRoom []
+  one-part : {p : Part} {parts : List Part} → HasRoom p → AllHaveRoom parts → AllHaveRoom (p ∷ parts)
 
 -- the replay's reads, of at most CHUNK bytes, and its buffer for their lines
 abbrev pub CHUNK : ℕ

@@ -2,7 +2,7 @@
 use Rattle.std.specs.Prelude.{ℕ, ◌+◌, ◌-◌, ◌*◌, ◌/◌, ◌≤◌, ◌<◌, ◌≡◌, Bool, false, List, map, length}
 use Rattle.replay_log.specs.declared.Stop.TheVariants as S
 use Rattle.replay_log.specs.Run.{State, run_of, LAST}
-use Rattle.parts.specs.Parts.{is_room, Bytes, part_run, whole_run, Part, bytes_of, in_parts, in_one_piece, told_of, AllRoomy, CHUNK, BUFFER, buffered, Chunks, run_by_acts}
+use Rattle.parts.specs.Parts.{is_room, Bytes, part_run, whole_run, Part, roomy, bytes_of, in_parts, in_one_piece, told_of, AllHaveRoom, CHUNK, BUFFER, buffered, Chunks, run_by_acts}
 use Rattle.sound.specs.Sound.{sound_world}
 use Rattle.kept.specs.Shape.{Shaped}
 use Rattle.parts.specs.Flags.{Kept}
@@ -48,9 +48,15 @@ ChunkRoom =
     (l : List ℕ) (s : State) → Shaped s.world → Bytes l → s.number ≤ LAST → length l < CHUNK + 10 →
     is_room (part_run BUFFER l s).stop ≡ false
 
+-- Reads that each have room for their lines tell what one piece tells.
 abbrev pub ToldInReads : Type 0
 ToldInReads =
-    (s : State) (parts : List Part) → Shaped s.world → Bytes (bytes_of parts) → s.number ≤ LAST → AllRoomy parts →
+    (s : State) (reads : List (List ℕ)) → Shaped s.world → Bytes (bytes_of (map roomy reads)) →
+    told_of (in_parts s (map roomy reads)) ≡ told_of (in_one_piece s (bytes_of (map roomy reads)))
+
+abbrev pub ToldInRooms : Type 0
+ToldInRooms =
+    (s : State) (parts : List Part) → Shaped s.world → Bytes (bytes_of parts) → s.number ≤ LAST → AllHaveRoom parts →
     told_of (in_parts s parts) ≡ told_of (in_one_piece s (bytes_of parts))
 
 abbrev pub ToldInChunks : Type 0

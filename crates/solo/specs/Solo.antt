@@ -8,18 +8,17 @@ use Rattle.solo.specs.declared.Stop.{Stop}
 use Rattle.solo.specs.declared.Stop.TheVariants as S
 use Rattle.solo.specs.declared.Ran.{Ran}
 
--- the stop that the last event is: a run that only moved was ended by its budget. A step tells no set, begun, woken or
--- closed: these are refused by 0, which is no refusal's number.
+-- the stop that the last event is: a run that only moved was ended by its budget. A step tells no set, begun, woken or closed.
 unfoldable pub stop_of : Event → Stop
-stop_of E.Set = S.Refused 0
-stop_of E.Begun = S.Refused 0
+stop_of E.Set = S.Refused 19
+stop_of E.Begun = S.Refused 19
 stop_of (E.Moved woken) = S.Budget
 stop_of (E.Done value woken) = S.Done value
 stop_of E.Slept = S.Slept
 stop_of (E.Panic number woken) = S.Panic number
 stop_of E.Closure = S.Closure
-stop_of E.Woken = S.Refused 0
-stop_of E.Closed = S.Refused 0
+stop_of E.Woken = S.Refused 19
+stop_of E.Closed = S.Refused 19
 stop_of (E.Refused number) = S.Refused number
 
 unfoldable pub answer_of : Run.Ran → Ran

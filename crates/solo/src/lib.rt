@@ -55,20 +55,20 @@ fn is_stop(event: Event) -> bool
     }
 }
 
-// The stop that an event is. A step tells no set, begun, woken or closed: 0 is no refusal's number.
+// The stop that an event is.
 fn stop_of(event: Event) -> Stop
     ensures { result ≡ stop_of event }
 {
     match event {
-        Event::Set => Stop::Refused { number: 0 },
-        Event::Begun => Stop::Refused { number: 0 },
+        Event::Set => Stop::Refused { number: 19 },
+        Event::Begun => Stop::Refused { number: 19 },
         Event::Moved { woken: _ } => Stop::Budget,
         Event::Done { value, woken: _ } => Stop::Done { value: value },
         Event::Slept => Stop::Slept,
         Event::Panic { number, woken: _ } => Stop::Panic { number: number },
         Event::Closure => Stop::Closure,
-        Event::Woken => Stop::Refused { number: 0 },
-        Event::Closed => Stop::Refused { number: 0 },
+        Event::Woken => Stop::Refused { number: 19 },
+        Event::Closed => Stop::Refused { number: 19 },
         Event::Refused { number } => Stop::Refused { number: number },
     }
 }

@@ -3,9 +3,11 @@
 #![tactic(auto, unfolding(crate::specs::Sound::asleep_count, crate::specs::Sound::count_agrees, crate::specs::Sound::every_sleeper_stands, crate::specs::Sound::is_asleep, crate::specs::Sound::lock_agrees, crate::specs::Sound::lock_is_set, crate::specs::Sound::locks_agree, crate::specs::Sound::locks_are_set, crate::specs::Sound::mutex_agrees, crate::specs::Sound::mutex_holders, crate::specs::Sound::mutex_in_range, crate::specs::Sound::mutex_rests, crate::specs::Sound::mutexes_agree, crate::specs::Sound::mutexes_in_range, crate::specs::Sound::mutexes_rest, crate::specs::Sound::name_exists, crate::specs::Sound::names_exist, crate::specs::Sound::need_held, crate::specs::Sound::needs_held, crate::specs::Sound::nobody_sleeps, crate::specs::Sound::once_in_range, crate::specs::Sound::once_is_set, crate::specs::Sound::onces_are_set, crate::specs::Sound::onces_in_range, crate::specs::Sound::parker_rests, crate::specs::Sound::parkers_rest, crate::specs::Sound::reads_held, crate::specs::Sound::set_alone, crate::specs::Sound::sleeper_stands, crate::specs::Sound::sleepers_stand, crate::specs::Sound::sound_world, crate::specs::Sound::stands_as, crate::specs::Sound::started_or_set, crate::specs::Sound::state_is_set, crate::specs::Sound::thread_rests, crate::specs::Sound::threads_rest, crate::specs::Sound::value_passed, crate::specs::Sound::values_passed, crate::specs::Sound::word_for, crate::specs::Sound::words_in_range, crate::specs::Sound::writers))]
 
 ghost use Rattle.std.specs.Prelude.{◌+◌, ◌<◌, ◌≡◌, cond, get_or};
+ghost use Rattle.calls.specs.Positions.{is_idle};
+ghost use Rattle.world.specs.Holds.{has_hold};
 ghost use Rattle.sound.specs.Sound.{word_for, name_exists, names_exist, value_passed, values_passed, is_asleep, stands_as, sleeper_stands, every_sleeper_stands, asleep_count, sleepers_stand, mutex_in_range, mutexes_in_range, once_in_range, onces_in_range, words_in_range, mutex_holders, mutex_agrees, mutexes_agree, writers, reads_held, count_agrees, lock_agrees, locks_agree, need_held, needs_held, thread_rests, threads_rest, nobody_sleeps, mutex_rests, mutexes_rest, state_is_set, lock_is_set, locks_are_set, once_is_set, onces_are_set, parker_rests, parkers_rest, set_alone, started_or_set, sound_world};
 
-use calls::{MUTEXES, ONCES, RWLOCKS, Thread, WORDS};
+use calls::{At, MUTEXES, Need, ONCES, RWLOCKS, Thread, WORDS};
 use queue::{Row, THREADS};
 use words::{Kind, MutexWord, OnceWord, ParkerWord, RwLockWord};
 use world::{LOCK_HOLDS, MUTEX_HOLDS, World};
@@ -352,6 +354,19 @@ pub fn locks_agree(w: World) -> bool
     true
 }
 
+// Whether thread t has the hold that is needed.
+pub fn has_hold(
+    locked: [bool; MUTEX_HOLDS],
+    written: [bool; LOCK_HOLDS],
+    reads: [u32; LOCK_HOLDS],
+    t: u8,
+    need: Need,
+) -> bool
+    ensures { result ≡ has_hold locked written reads t need }
+{
+    world::has_hold(locked, written, reads, t, need)
+}
+
 fn need_held(
     threads: [Thread; THREADS],
     locked: [bool; MUTEX_HOLDS],
@@ -384,6 +399,13 @@ pub fn needs_held(w: World) -> bool
         t = t + 1;
     }
     true
+}
+
+// Whether a thread is in no call.
+pub fn is_idle(at: At) -> bool
+    ensures { result ≡ is_idle at }
+{
+    calls::is_idle(at)
 }
 
 fn thread_rests(threads: [Thread; THREADS], t: u8) -> bool

@@ -141,6 +141,6 @@ stepped w t fails th k place word p r eth ek h ep ew epl er = er ∙ rw (← eth
 
 pub not-stepped :
     (w : World) (t : ℕ) (fails : Bool) (th : Thread) (k : ℕ) →
-    th ≡ thread_at w t → k ≡ operand_of t th.at → ltb k WORDS ≡ false → refused 0 w ≡ step_of w t fails
+    th ≡ thread_at w t → k ≡ operand_of t th.at → ltb k WORDS ≡ false → refused 19 w ≡ step_of w t fails
 unfolding step_of
 not-stepped w t fails th k eth ek h = rw (← eth, ← ek, h)

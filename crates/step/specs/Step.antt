@@ -117,11 +117,10 @@ apply_plan w t k place p =
 abbrev pub refused : ℕ → World → Acted
 refused number w = record { event = E.Refused number; world = w }
 
--- a step of thread t; one that has no word (idle, in a closure, on an object that does not exist) stays, refused by 0, which is no
--- refusal's number: no act gets here with one
+-- a step of thread t; one that has no word (idle, in a closure, on an object that does not exist) stays
 unfoldable pub step_of : World → ℕ → Bool → Acted
 step_of w t fails =
     let at = (thread_at w t).at in
     let k = operand_of t at in
     let place = place_of (on_word w.threads k) w.sleepers in
-    cond (ltb k WORDS) (apply_plan w t k place (decide_of at fails (word_at w k) (ltb place THREADS))) (refused 0 w)
+    cond (ltb k WORDS) (apply_plan w t k place (decide_of at fails (word_at w k) (ltb place THREADS))) (refused 19 w)

@@ -257,6 +257,19 @@ pub fn reads_after(hold: Hold, n: u32) -> u32
     }
 }
 
+// The place of thread t's hold of a mutex in its table; so of an RwLock.
+pub fn mutex_slot(t: u8, object: u8) -> usize
+    ensures { result ≡ mutex_slot t object }
+{
+    world::mutex_slot(t, object)
+}
+
+pub fn lock_slot(t: u8, object: u8) -> usize
+    ensures { result ≡ lock_slot t object }
+{
+    world::lock_slot(t, object)
+}
+
 // The row with t behind the others, where it fell asleep.
 pub fn slept_row(sleeps: bool, row: Row, t: u8) -> Row
     ensures { result ≡ slept_row sleeps row t }
@@ -340,8 +353,8 @@ fn apply(w: World, t: u8, k: usize, place: usize, p: Plan) -> Acted
 }
 
 // A step of thread t; `fails`: where a weak exchange is next, it fails. A thread that has no operation
-// (idle, in a closure, on an object that does not exist) stays, and is refused by 0, which is no refusal's number:
-// an act refuses it before it gets here.
+// (idle, in a closure, on an object that does not exist) stays, and is refused as a world is whose parts
+// disagree.
 pub fn step(w: World, t: u8, fails: bool) -> Acted
     ensures { result ≡ step_of w t fails }
 {
@@ -359,7 +372,7 @@ pub fn step(w: World, t: u8, fails: bool) -> Acted
         return apply(w, t, k, place, p);
     }
     Acted {
-        event: Event::Refused { number: 0 },
+        event: Event::Refused { number: 19 },
         world: w,
     }
 }

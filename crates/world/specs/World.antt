@@ -1,5 +1,5 @@
 -- A world: its words, holds, thread records and sleepers, and the fresh one. Assumes nothing.
-use Rattle.std.specs.Prelude.{ℕ, Bool, false, ◌&&◌, List, ◌++◌, eqb, get_or, replicate}
+use Rattle.std.specs.Prelude.{ℕ, Bool, true, false, ◌&&◌, List, ◌++◌, eqb, get_or, replicate}
 use Rattle.words.specs.Once.{INCOMPLETE}
 use Rattle.words.specs.declared.Kind.TheVariants as K
 use Rattle.queue.specs.declared.Row.{Row}
@@ -50,4 +50,17 @@ with_sleepers w ths row = record {
   threads = ths;
   sleepers = row;
   started = w.started;
+}
+
+-- the world after an act other than set
+abbrev pub in_motion : World → World
+in_motion w = record {
+  words = w.words;
+  locked = w.locked;
+  written = w.written;
+  reads = w.reads;
+  forgotten = w.forgotten;
+  threads = w.threads;
+  sleepers = w.sleepers;
+  started = true;
 }
