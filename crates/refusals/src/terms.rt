@@ -7,7 +7,7 @@ const COUNT: usize = 112;
 const WIDTH: usize = 40;
 
 // Each filled up with full stops, in the groups below.
-const TERMS: [u8; COUNT * WIDTH] = *b"\
+const TERMS: &[u8; COUNT * WIDTH] = b"\
     names: .................................\
     values: ................................\
     sleepers: ..............................\
