@@ -2,19 +2,21 @@
 // the end, a world whose parts disagree, and counts at their largest. The stored output was worked out by
 // hand from document 01.
 #![tactic(auto)]
-ghost use Rattle.std.specs.Prelude.{◌≤◌, ◌≡◌, length};
 
-use libc::STDOUT_FILENO;
 use replay_log::{Ran, Stop};
+use std::io;
 use tally::Tally;
 use world::World;
 
-fn say(words: &[u8]) {
-    io::write_all(STDOUT_FILENO, words);
+// More bytes than any run here writes.
+const BUFFER: usize = 4096;
+
+fn say(rt: &impl Print, words: &[u8]) -> io::Result<()> {
+    rt.write_all(words)
 }
 
-fn say_number(n: u64) {
-    io::print_decimal(STDOUT_FILENO, n);
+fn say_number(rt: &impl Print, n: u64) -> io::Result<()> {
+    rt.print(n)
 }
 
 // Document 01's example: thread 0 locks mutex 0, and thread 1 tries to.
@@ -25,91 +27,91 @@ fn example() -> [u8; 40] {
     ]
 }
 
-fn say_stop(stop: Stop) {
+fn say_stop(rt: &impl Print, stop: Stop) -> io::Result<()> {
     match stop {
-        Stop::Short => say(b"short"),
-        Stop::Room => say(b"no room"),
+        Stop::Short => say(rt, b"short"),
+        Stop::Room => say(rt, b"no room"),
         Stop::Ended { number } => {
-            say(b"ended by ");
-            say_number(number as u64);
+            say(rt, b"ended by ")?;
+            say_number(rt, number as u64)
         }
     }
 }
 
 // The lines of a run and what it reached.
-fn tell(ran: Ran, out: &[u8]) {
+fn tell(rt: &impl Print, ran: Ran, out: &[u8]) -> io::Result<()> {
     let count = replay_log::within(ran.count, out);
-    io::write_all(STDOUT_FILENO, &out[..count]);
-    say(b"next ");
-    say_number(ran.number as u64);
-    say(b", used ");
-    say_number(ran.used as u64);
-    say(b", wrote ");
-    say_number(ran.count as u64);
-    say(b", ");
+    rt.write_all(&out[..count])?;
+    say(rt, b"next ")?;
+    say_number(rt, ran.number as u64)?;
+    say(rt, b", used ")?;
+    say_number(rt, ran.used as u64)?;
+    say(rt, b", wrote ")?;
+    say_number(rt, ran.count as u64)?;
+    say(rt, b", ")?;
     let stop = ran.stop;
-    say_stop(stop);
-    say(b"\n");
+    say_stop(rt, stop)?;
+    say(rt, b"\n")
 }
 
 // The tally's line.
-fn tell_tally(t: Tally, out: &mut [u8]) {
+fn tell_tally(rt: &impl Print, t: Tally, out: &mut [u8]) -> io::Result<()> {
     let end = lines::put_tally(out, 0, t);
     let count = replay_log::within(end, out);
-    io::write_all(STDOUT_FILENO, &out[..count]);
+    rt.write_all(&out[..count])
 }
 
 // The example with a first number.
-fn numbered(number: u32, out: &mut [u8]) {
+fn numbered(rt: &impl Print, number: u32, out: &mut [u8]) -> io::Result<()> {
     let log = example();
     let ran = replay_log::run(world::fresh(), tally::nothing(), number, &log, out);
-    tell(ran, out);
+    tell(rt, ran, out)?;
     let t = ran.tally;
-    tell_tally(t, out);
+    tell_tally(rt, t, out)
 }
 
 // The end of a log, with so many bytes left.
-fn left(number: u32, bytes: usize, out: &mut [u8]) {
+fn left(rt: &impl Print, number: u32, bytes: usize, out: &mut [u8]) -> io::Result<()> {
     let finished = replay_log::put_finish(tally::nothing(), number, bytes, out);
     let count = replay_log::within(finished.count, out);
-    io::write_all(STDOUT_FILENO, &out[..count]);
+    rt.write_all(&out[..count])?;
     let t = finished.tally;
-    tell_tally(t, out);
+    tell_tally(rt, t, out)
 }
 
 // The example into so much room.
-fn roomed(room: usize, out: &mut [u8]) {
+fn roomed(rt: &impl Print, room: usize, out: &mut [u8]) -> io::Result<()> {
     let log = example();
     let size = replay_log::within(room, out);
     let ran = replay_log::run(world::fresh(), tally::nothing(), 0, &log, &mut out[..size]);
-    tell(ran, out);
+    tell(rt, ran, out)
 }
 
 // The example from a place in it.
-fn started(from: usize, out: &mut [u8]) {
+fn started(rt: &impl Print, from: usize, out: &mut [u8]) -> io::Result<()> {
     let log = example();
     let ran = replay_log::run_from(world::fresh(), tally::nothing(), 0, &log, from, out);
-    tell(ran, out);
+    tell(rt, ran, out)
 }
 
 // The example on a world whose mutex word is 3.
-fn unsound(out: &mut [u8]) {
+fn unsound(rt: &impl Print, out: &mut [u8]) -> io::Result<()> {
     let log = example();
     let mut w = world::fresh();
     w.words[0] = 3;
     let ran = replay_log::run(w, tally::nothing(), 0, &log, out);
-    tell(ran, out);
+    tell(rt, ran, out)?;
     let t = ran.tally;
-    tell_tally(t, out);
+    tell_tally(rt, t, out)
 }
 
 // The example, added to a tally.
-fn added(t: Tally, out: &mut [u8]) -> Tally {
+fn added(rt: &impl Print, t: Tally, out: &mut [u8]) -> io::Result<Tally> {
     let log = example();
     let ran = replay_log::run(world::fresh(), t, 0, &log, out);
     let after = ran.tally;
-    tell_tally(after, out);
-    after
+    tell_tally(rt, after, out)?;
+    Ok(after)
 }
 
 // Every count one below its largest value.
@@ -123,37 +125,38 @@ fn nearly_full() -> Tally {
     }
 }
 
-fn main() {
-    let mut out = io::buffer();
-    say(b"first number 4294967291\n");
-    numbered(4294967291, &mut out);
-    say(b"first number 4294967293\n");
-    numbered(4294967293, &mut out);
-    say(b"first number 4294967295\n");
-    numbered(4294967295, &mut out);
-    say(b"0 bytes left behind the last number\n");
-    left(4294967295, 0, &mut out);
-    say(b"1 byte left behind the last number\n");
-    left(4294967295, 1, &mut out);
-    say(b"9 bytes left\n");
-    left(7, 9, &mut out);
-    say(b"room for 0 bytes\n");
-    roomed(0, &mut out);
-    say(b"room for 11 bytes\n");
-    roomed(11, &mut out);
-    say(b"room for 12 bytes\n");
-    roomed(12, &mut out);
-    say(b"room for 46 bytes\n");
-    roomed(46, &mut out);
-    say(b"start at 20\n");
-    started(20, &mut out);
-    say(b"start at 40\n");
-    started(40, &mut out);
-    say(b"start at 41\n");
-    started(41, &mut out);
-    say(b"a world whose parts disagree\n");
-    unsound(&mut out);
-    say(b"counts near their largest\n");
-    let once = added(nearly_full(), &mut out);
-    added(once, &mut out);
+fn main(rt: HostRuntime) -> io::Result<()> {
+    let mut out = [0; BUFFER];
+    say(&rt, b"first number 4294967291\n")?;
+    numbered(&rt, 4294967291, &mut out)?;
+    say(&rt, b"first number 4294967293\n")?;
+    numbered(&rt, 4294967293, &mut out)?;
+    say(&rt, b"first number 4294967295\n")?;
+    numbered(&rt, 4294967295, &mut out)?;
+    say(&rt, b"0 bytes left behind the last number\n")?;
+    left(&rt, 4294967295, 0, &mut out)?;
+    say(&rt, b"1 byte left behind the last number\n")?;
+    left(&rt, 4294967295, 1, &mut out)?;
+    say(&rt, b"9 bytes left\n")?;
+    left(&rt, 7, 9, &mut out)?;
+    say(&rt, b"room for 0 bytes\n")?;
+    roomed(&rt, 0, &mut out)?;
+    say(&rt, b"room for 11 bytes\n")?;
+    roomed(&rt, 11, &mut out)?;
+    say(&rt, b"room for 12 bytes\n")?;
+    roomed(&rt, 12, &mut out)?;
+    say(&rt, b"room for 46 bytes\n")?;
+    roomed(&rt, 46, &mut out)?;
+    say(&rt, b"start at 20\n")?;
+    started(&rt, 20, &mut out)?;
+    say(&rt, b"start at 40\n")?;
+    started(&rt, 40, &mut out)?;
+    say(&rt, b"start at 41\n")?;
+    started(&rt, 41, &mut out)?;
+    say(&rt, b"a world whose parts disagree\n")?;
+    unsound(&rt, &mut out)?;
+    say(&rt, b"counts near their largest\n")?;
+    let once = added(&rt, nearly_full(), &mut out)?;
+    added(&rt, once, &mut out)?;
+    Ok(())
 }

@@ -4,52 +4,63 @@ use crate::report::record;
 use crate::{forge, holds, places, report, terms, text, worlds};
 use acts::Fields;
 use queue::THREADS;
+use std::io;
 use words::Kind;
 use world::World;
 
 // Thread 0 stands at the start of a call, has this hold, and is stepped.
-pub fn at_start(section: u32, call: u32, object: u32, mutex: u32, hold: u32) {
-    terms::put(section);
-    terms::put(terms::CALLS + call % 20);
-    text::put(b" on");
-    text::put_number(object);
+pub fn at_start(
+    rt: &impl Print,
+    section: u32,
+    call: u32,
+    object: u32,
+    mutex: u32,
+    hold: u32,
+) -> io::Result<()> {
+    terms::put(rt, section)?;
+    terms::put(rt, terms::CALLS + call % 20)?;
+    text::put(rt, b" on")?;
+    text::put_number(rt, object)?;
     if call == 10 {
-        text::put(b" with");
-        text::put_number(mutex);
+        text::put(rt, b" with")?;
+        text::put_number(rt, mutex)?;
     }
-    text::put(b", ");
-    terms::put(terms::HOLDS + hold % 8);
+    text::put(rt, b", ")?;
+    terms::put(rt, terms::HOLDS + hold % 8)?;
     let at = calls::entry(byte(call), byte(object), byte(mutex));
     report::tell(
+        rt,
         forge::stands(holds::held(hold), 0, at, false),
         report::step(0),
-    );
+    )
 }
 
-fn put_place(section: u32, place: u32, value: u32) {
-    terms::put(section);
-    terms::put(terms::PLACES + place % 36);
-    text::put_number(value);
+fn put_place(rt: &impl Print, section: u32, place: u32, value: u32) -> io::Result<()> {
+    terms::put(rt, section)?;
+    terms::put(rt, terms::PLACES + place % 36)?;
+    text::put_number(rt, value)
 }
 
 // Thread 0 stands there, holds nothing, and is stepped.
-pub fn inside(section: u32, choice: u8, place: u32, value: u32) {
-    put_place(section, place, value);
+pub fn inside(rt: &impl Print, section: u32, choice: u8, place: u32, value: u32) -> io::Result<()> {
+    put_place(rt, section, place, value)?;
     let at = places::place(place, value);
     report::tell(
+        rt,
         forge::stands(forge::noted(true), 0, at, false),
         record(acts::STEP, choice, 0, 0, 0),
-    );
+    )
 }
 
 // Thread 0 sleeps there, and is woken.
-pub fn asleep(section: u32, place: u32, value: u32) {
-    put_place(section, place, value);
+pub fn asleep(rt: &impl Print, section: u32, place: u32, value: u32) -> io::Result<()> {
+    put_place(rt, section, place, value)?;
     let at = places::place(place, value);
     report::tell(
+        rt,
         forge::sleeps(forge::noted(true), at),
         record(acts::WAKE, 0, 0, 0, 0),
-    );
+    )
 }
 
 // So many threads, from 0 on, sleep in park: none, one, two or all.
@@ -106,21 +117,30 @@ fn wake_or_begin(count: u32) -> Fields {
 }
 
 // So many sleep, and the row says this. Thread 0 is woken, or begins a park where nobody sleeps.
-pub fn row(section: u32, count: u32, first: u32, second: u32, last: u32, said: u32) {
-    terms::put(section);
-    io::print_decimal(libc::STDOUT_FILENO, count as u64);
-    text::put(b" asleep, row");
-    text::put_number(first);
-    text::put_number(second);
-    text::put(b" ..");
-    text::put_number(last);
-    text::put(b", count");
-    text::put_number(said);
+pub fn row(
+    rt: &impl Print,
+    section: u32,
+    count: u32,
+    first: u32,
+    second: u32,
+    last: u32,
+    said: u32,
+) -> io::Result<()> {
+    terms::put(rt, section)?;
+    rt.print(count)?;
+    text::put(rt, b" asleep, row")?;
+    text::put_number(rt, first)?;
+    text::put_number(rt, second)?;
+    text::put(rt, b" ..")?;
+    text::put_number(rt, last)?;
+    text::put(rt, b", count")?;
+    text::put_number(rt, said)?;
     let places = in_row(count == 32, byte(first), byte(second), byte(last));
     report::tell(
+        rt,
         forge::row(parked(count), places, said as usize),
         wake_or_begin(count),
-    );
+    )
 }
 
 // The kinds of words, by the numbers of their terms.
@@ -166,25 +186,34 @@ fn held_by(w: World, mutex: u8, holders: u32) -> World {
     forge::locked(v, 30, mutex)
 }
 
-fn put_word(section: u32, kind: u32, object: u32, word: u32) {
-    terms::put(section);
-    terms::put(terms::KINDS + kind % 6);
-    text::put_number(object);
-    text::put(b" is");
-    text::put_number(word);
+fn put_word(rt: &impl Print, section: u32, kind: u32, object: u32, word: u32) -> io::Result<()> {
+    terms::put(rt, section)?;
+    terms::put(rt, terms::KINDS + kind % 6)?;
+    text::put_number(rt, object)?;
+    text::put(rt, b" is")?;
+    text::put_number(rt, word)
 }
 
 // A word, and how many threads hold the mutex of that number.
-pub fn word(section: u32, started: bool, kind: u32, object: u32, word: u32, holders: u32) {
-    put_word(section, kind, object, word);
-    text::put(b", holders");
-    text::put_number(holders);
+pub fn word(
+    rt: &impl Print,
+    section: u32,
+    started: bool,
+    kind: u32,
+    object: u32,
+    word: u32,
+    holders: u32,
+) -> io::Result<()> {
+    put_word(rt, section, kind, object, word)?;
+    text::put(rt, b", holders")?;
+    text::put_number(rt, holders)?;
     let w = forge::word(forge::noted(started), kind_of(kind), byte(object), word);
-    report::tell(held_by(w, byte(object), holders), begin_or_set(started));
+    report::tell(rt, held_by(w, byte(object), holders), begin_or_set(started))
 }
 
 // An RwLock's word and holds.
 pub fn lock(
+    rt: &impl Print,
     section: u32,
     started: bool,
     lock: u32,
@@ -193,23 +222,25 @@ pub fn lock(
     first: u32,
     last: u32,
     writers: u32,
-) {
-    put_word(section, RWLOCK, lock, state);
-    text::put(b", forgotten");
-    text::put_number(forgotten);
-    text::put(b", reads");
-    text::put_number(first);
-    text::put_number(last);
-    text::put(b", writers");
-    text::put_number(writers);
+) -> io::Result<()> {
+    put_word(rt, section, RWLOCK, lock, state)?;
+    text::put(rt, b", forgotten")?;
+    text::put_number(rt, forgotten)?;
+    text::put(rt, b", reads")?;
+    text::put_number(rt, first)?;
+    text::put_number(rt, last)?;
+    text::put(rt, b", writers")?;
+    text::put_number(rt, writers)?;
     report::tell(
+        rt,
         holds::rwlock(started, byte(lock), state, forgotten, first, last, writers),
         begin_or_set(started),
-    );
+    )
 }
 
 // A named world and a record; `also` is the refusal of less precedence that applies as well, 0 for none.
 pub fn told(
+    rt: &impl Print,
     section: u32,
     name: u32,
     act: u32,
@@ -218,22 +249,23 @@ pub fn told(
     object: u32,
     value: u32,
     also: u32,
-) {
-    terms::put(section);
-    terms::put(terms::WORLDS + name % 20);
-    text::put(b", record");
-    text::put_number(act);
-    text::put_number(choice);
-    text::put_number(thread);
-    text::put_number(object);
-    text::put_number(value);
+) -> io::Result<()> {
+    terms::put(rt, section)?;
+    terms::put(rt, terms::WORLDS + name % 20)?;
+    text::put(rt, b", record")?;
+    text::put_number(rt, act)?;
+    text::put_number(rt, choice)?;
+    text::put_number(rt, thread)?;
+    text::put_number(rt, object)?;
+    text::put_number(rt, value)?;
     report::put_answer(
+        rt,
         worlds::named(name),
         record(byte(act), byte(choice), byte(thread), byte(object), value),
-    );
+    )?;
     if also != 0 {
-        text::put(b", before");
-        text::put_number(also);
+        text::put(rt, b", before")?;
+        text::put_number(rt, also)?;
     }
-    text::put(b"\n");
+    text::put(rt, b"\n")
 }

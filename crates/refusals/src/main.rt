@@ -2,6 +2,7 @@
 // file `stdout`, to which that is held, was worked out by hand from document 01, and no number in it was taken from
 // this program.
 #![tactic(auto)]
+
 mod cases;
 mod forge;
 mod holds;
@@ -20,15 +21,17 @@ mod values;
 mod words_held;
 mod worlds;
 
-fn main() {
-    names::lines();
-    values::lines();
-    sleepers::lines();
-    words_held::lines();
-    needs::lines();
-    starts::lines();
-    refused::lines();
-    values::failing_lines();
-    refused::order_lines();
-    numbers::lines();
+use std::io;
+
+fn main(rt: HostRuntime) -> io::Result<()> {
+    names::lines(&rt)?;
+    values::lines(&rt)?;
+    sleepers::lines(&rt)?;
+    words_held::lines(&rt)?;
+    needs::lines(&rt)?;
+    starts::lines(&rt)?;
+    refused::lines(&rt)?;
+    values::failing_lines(&rt)?;
+    refused::order_lines(&rt)?;
+    numbers::lines(&rt)
 }

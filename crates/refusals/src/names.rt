@@ -1,5 +1,6 @@
 // Clause 1 of soundness: every index exists. Objects go to 3, threads to 31.
 use crate::{holds, rows, terms};
+use std::io;
 
 const CASES: [[u32; 4]; 21] = [
     [0, 3, 0, holds::NOTHING_HELD],
@@ -25,6 +26,6 @@ const CASES: [[u32; 4]; 21] = [
     [19, 255, 0, holds::NOTHING_HELD],
 ];
 
-pub fn lines() {
-    rows::calls(terms::NAMES, &CASES);
+pub fn lines(rt: &impl Print) -> io::Result<()> {
+    rows::calls(rt, terms::NAMES, &CASES)
 }

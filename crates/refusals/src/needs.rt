@@ -1,5 +1,6 @@
 // Clause 7 of soundness: a thread still before the operation that frees or downgrades has that hold.
 use crate::{holds, places, rows, terms};
+use std::io;
 
 const STARTS: [[u32; 4]; 18] = [
     [2, 0, 0, holds::MUTEX_0_HELD],
@@ -30,7 +31,7 @@ const AFTER: [[u32; 2]; 4] = [
     [places::DOWNGRADE_SUBTRACTS, 0],
 ];
 
-pub fn lines() {
-    rows::calls(terms::NEEDS, &STARTS);
-    rows::places(terms::AFTER, 0, &AFTER);
+pub fn lines(rt: &impl Print) -> io::Result<()> {
+    rows::calls(rt, terms::NEEDS, &STARTS)?;
+    rows::places(rt, terms::AFTER, 0, &AFTER)
 }

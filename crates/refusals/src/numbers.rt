@@ -3,6 +3,7 @@ use crate::report::{after, begin, record, step};
 use crate::{report, text};
 use acts::Fields;
 use calls::Event;
+use std::io;
 use words::Kind;
 use world::World;
 
@@ -10,7 +11,7 @@ use world::World;
 const MOST: u32 = 200;
 
 // The world after some steps, how many they are, what the last of them told, and whether that ends the run.
-#[derive(Drop)]
+#[derive(Clone, Copy)]
 struct Ran {
     world: World,
     event: Event,
@@ -64,94 +65,112 @@ fn run(w: World, thread: u8) -> Ran {
     ran
 }
 
-fn put_before(call: &[u8], word: u32) {
-    text::put(b"numbers: ");
-    text::put(call);
-    text::put(b" at");
-    text::put_number(word);
-    text::put(b": ");
+fn put_before(rt: &impl Print, call: &[u8], word: u32) -> io::Result<()> {
+    text::put(rt, b"numbers: ")?;
+    text::put(rt, call)?;
+    text::put(rt, b" at")?;
+    text::put_number(rt, word)?;
+    text::put(rt, b": ")
 }
 
-fn put_after(event: Event, steps: u32) {
-    report::put_event(event);
-    text::put(b" after");
-    text::put_number(steps);
+fn put_after(rt: &impl Print, event: Event, steps: u32) -> io::Result<()> {
+    report::put_event(rt, event)?;
+    text::put(rt, b" after")?;
+    text::put_number(rt, steps)
 }
 
-fn put_word(w: World, kind: Kind) {
-    text::put(b", word");
-    text::put_number(report::word_of(w, kind, 0));
-    text::put(b"\n");
+fn put_word(rt: &impl Print, w: World, kind: Kind) -> io::Result<()> {
+    text::put(rt, b", word")?;
+    text::put_number(rt, report::word_of(w, kind, 0))?;
+    text::put(rt, b"\n")
 }
 
 // The call of a thread that is under way is run, and its word shown before and after.
-fn go_on(call: &[u8], w: World, thread: u8, kind: Kind) -> World {
-    put_before(call, report::word_of(w, kind, 0));
+fn go_on(rt: &impl Print, call: &[u8], w: World, thread: u8, kind: Kind) -> io::Result<World> {
+    put_before(rt, call, report::word_of(w, kind, 0))?;
     let ran = run(w, thread);
     let event = ran.event;
     let last = ran.world;
-    put_after(event, ran.steps);
-    put_word(last, kind);
-    last
+    put_after(rt, event, ran.steps)?;
+    put_word(rt, last, kind)?;
+    Ok(last)
 }
 
 // A call on object 0, from its begin.
-fn call(name: &[u8], w: World, number: u8, thread: u8, kind: Kind) -> World {
-    go_on(name, after(w, begin(number, thread, 0)), thread, kind)
+fn call(
+    rt: &impl Print,
+    name: &[u8],
+    w: World,
+    number: u8,
+    thread: u8,
+    kind: Kind,
+) -> io::Result<World> {
+    go_on(rt, name, after(w, begin(number, thread, 0)), thread, kind)
 }
 
 // One act, and the word after it.
-fn act(name: &[u8], w: World, a: Fields, kind: Kind) -> World {
-    text::put(b"numbers: ");
-    text::put(name);
-    report::put_answer(w, a);
+fn act(rt: &impl Print, name: &[u8], w: World, a: Fields, kind: Kind) -> io::Result<World> {
+    text::put(rt, b"numbers: ")?;
+    text::put(rt, name)?;
+    report::put_answer(rt, w, a)?;
     let last = after(w, a);
-    put_word(last, kind);
-    last
+    put_word(rt, last, kind)?;
+    Ok(last)
 }
 
 // The second writer finds 0x80000001, which the first has left.
-fn write() {
+fn write(rt: &impl Print) -> io::Result<()> {
     let w = after(world::fresh(), record(acts::SET, 0, 0, 0, 1));
-    let w = call(b"write", w, 6, 1, Kind::RwLock);
-    call(b"write", w, 6, 0, Kind::RwLock);
+    let w = call(rt, b"write", w, 6, 1, Kind::RwLock)?;
+    call(rt, b"write", w, 6, 0, Kind::RwLock)?;
+    Ok(())
 }
 
-fn unlock() {
-    let w = call(b"lock", world::fresh(), 0, 0, Kind::Mutex);
-    call(b"unlock", w, 2, 0, Kind::Mutex);
+fn unlock(rt: &impl Print) -> io::Result<()> {
+    let w = call(rt, b"lock", world::fresh(), 0, 0, Kind::Mutex)?;
+    call(rt, b"unlock", w, 2, 0, Kind::Mutex)?;
+    Ok(())
 }
 
 // Threads 1 and 2 wait for a closure of thread 0's.
-fn awaited() -> World {
-    let w = call(b"Once call", world::fresh(), 13, 0, Kind::Once);
-    let w = call(b"Once call", w, 13, 1, Kind::Once);
-    call(b"Once wait", w, 15, 2, Kind::Once)
+fn awaited(rt: &impl Print) -> io::Result<World> {
+    let w = call(rt, b"Once call", world::fresh(), 13, 0, Kind::Once)?;
+    let w = call(rt, b"Once call", w, 13, 1, Kind::Once)?;
+    call(rt, b"Once wait", w, 15, 2, Kind::Once)
 }
 
 // The closure panics.
-fn closed(w: World) -> World {
+fn closed(rt: &impl Print, w: World) -> io::Result<World> {
     let close = record(acts::CLOSE, 2, 0, 0, 0);
-    let w = act(b"close by panic", w, close, Kind::Once);
-    let w = act(b"its swap", w, step(0), Kind::Once);
-    act(b"its wake-all", w, step(0), Kind::Once)
+    let w = act(rt, b"close by panic", w, close, Kind::Once)?;
+    let w = act(rt, b"its swap", w, step(0), Kind::Once)?;
+    act(rt, b"its wake-all", w, step(0), Kind::Once)
 }
 
-fn once() {
-    go_on(b"Once call", closed(awaited()), 1, Kind::Once);
+fn once(rt: &impl Print) -> io::Result<()> {
+    let w = closed(rt, awaited(rt)?)?;
+    go_on(rt, b"Once call", w, 1, Kind::Once)?;
+    Ok(())
 }
 
-fn notify_one() {
+fn notify_one(rt: &impl Print) -> io::Result<()> {
     let set = record(acts::SET, 2, 0, 0, 0xFFFF_FFFF);
-    let w = act(b"set notify_one's word", world::fresh(), set, Kind::Condvar);
+    let w = act(
+        rt,
+        b"set notify_one's word",
+        world::fresh(),
+        set,
+        Kind::Condvar,
+    )?;
     let w = after(w, begin(11, 0, 0));
-    let w = act(b"its fetch_add", w, step(0), Kind::Condvar);
-    act(b"its wake", w, step(0), Kind::Condvar);
+    let w = act(rt, b"its fetch_add", w, step(0), Kind::Condvar)?;
+    act(rt, b"its wake", w, step(0), Kind::Condvar)?;
+    Ok(())
 }
 
-pub fn lines() {
-    write();
-    unlock();
-    once();
-    notify_one();
+pub fn lines(rt: &impl Print) -> io::Result<()> {
+    write(rt)?;
+    unlock(rt)?;
+    once(rt)?;
+    notify_one(rt)
 }

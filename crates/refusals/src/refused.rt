@@ -2,6 +2,7 @@
 // document 01's order, in a world and with a record to which both apply. A record is act, choice, thread, object and
 // value, in document 01's numbers.
 use crate::{rows, terms, worlds};
+use std::io;
 
 // 1: the act or the choice is unknown, or a field not named is not 0.
 const FIELDS: [[u32; 7]; 20] = [
@@ -154,34 +155,34 @@ const ORDER: [[u32; 7]; 32] = [
     [worlds::ASLEEP_IN_PARK, 4, 0, 0, 0, 0, 11],
 ];
 
-fn fields() {
-    rows::records(terms::REFUSALS, &FIELDS);
+fn fields(rt: &impl Print) -> io::Result<()> {
+    rows::records(rt, terms::REFUSALS, &FIELDS)
 }
 
-fn names() {
-    rows::records(terms::REFUSALS, &NAMES);
+fn names(rt: &impl Print) -> io::Result<()> {
+    rows::records(rt, terms::REFUSALS, &NAMES)
 }
 
-fn states() {
-    rows::records(terms::REFUSALS, &STATES);
+fn states(rt: &impl Print) -> io::Result<()> {
+    rows::records(rt, terms::REFUSALS, &STATES)
 }
 
-fn holds() {
-    rows::records(terms::REFUSALS, &HOLDS);
+fn holds(rt: &impl Print) -> io::Result<()> {
+    rows::records(rt, terms::REFUSALS, &HOLDS)
 }
 
-fn others() {
-    rows::records(terms::REFUSALS, &OTHERS);
+fn others(rt: &impl Print) -> io::Result<()> {
+    rows::records(rt, terms::REFUSALS, &OTHERS)
 }
 
-pub fn lines() {
-    fields();
-    names();
-    states();
-    holds();
-    others();
+pub fn lines(rt: &impl Print) -> io::Result<()> {
+    fields(rt)?;
+    names(rt)?;
+    states(rt)?;
+    holds(rt)?;
+    others(rt)
 }
 
-pub fn order_lines() {
-    rows::records(terms::ORDER, &ORDER);
+pub fn order_lines(rt: &impl Print) -> io::Result<()> {
+    rows::records(rt, terms::ORDER, &ORDER)
 }

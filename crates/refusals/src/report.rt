@@ -2,6 +2,7 @@
 use crate::{terms, text};
 use acts::Fields;
 use calls::{Event, WORDS};
+use std::io;
 use words::Kind;
 use world::World;
 
@@ -48,31 +49,30 @@ fn term_of(event: Event) -> u32 {
 }
 
 // The event, its value and how many it woke.
-pub fn put_event(event: Event) {
-    terms::put(term_of(event));
-    text::put_number(calls::value(event) as u32);
-    text::put_number(calls::woken(event) as u32);
+pub fn put_event(rt: &impl Print, event: Event) -> io::Result<()> {
+    terms::put(rt, term_of(event))?;
+    text::put_number(rt, calls::value(event) as u32)?;
+    text::put_number(rt, calls::woken(event) as u32)
 }
 
-fn put_soundness(sound: bool) {
+fn put_soundness(rt: &impl Print, sound: bool) -> io::Result<()> {
     if sound {
-        text::put(b": sound, ");
-        return;
+        return text::put(rt, b": sound, ");
     }
-    text::put(b": unsound, ");
+    text::put(rt, b": unsound, ")
 }
 
-pub fn put_answer(w: World, a: Fields) {
-    put_soundness(sound::sound(w));
+pub fn put_answer(rt: &impl Print, w: World, a: Fields) -> io::Result<()> {
+    put_soundness(rt, sound::sound(w))?;
     let acted = acts::act(w, a);
     let event = acted.event;
-    put_event(event);
+    put_event(rt, event)
 }
 
 // The answer, and the end of the line.
-pub fn tell(w: World, a: Fields) {
-    put_answer(w, a);
-    text::put(b"\n");
+pub fn tell(rt: &impl Print, w: World, a: Fields) -> io::Result<()> {
+    put_answer(rt, w, a)?;
+    text::put(rt, b"\n")
 }
 
 pub fn word_of(w: World, kind: Kind, object: u8) -> u32 {

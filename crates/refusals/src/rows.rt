@@ -1,77 +1,85 @@
 // A line for each row of a table of cases. A row has the numbers that the line is told from, in its order.
 use crate::cases;
+use std::io;
 
 // A call, its object, its mutex, and what is held.
-pub fn calls(section: u32, table: &[[u32; 4]]) {
+pub fn calls(rt: &impl Print, section: u32, table: &[[u32; 4]]) -> io::Result<()> {
     let mut i = 0;
     while i < table.len() {
         let row = table[i];
-        cases::at_start(section, row[0], row[1], row[2], row[3]);
+        cases::at_start(rt, section, row[0], row[1], row[2], row[3])?;
         i += 1;
     }
+    Ok(())
 }
 
 // A position and the value that it carries; `choice` is the step's.
-pub fn places(section: u32, choice: u8, table: &[[u32; 2]]) {
+pub fn places(rt: &impl Print, section: u32, choice: u8, table: &[[u32; 2]]) -> io::Result<()> {
     let mut i = 0;
     while i < table.len() {
         let row = table[i];
-        cases::inside(section, choice, row[0], row[1]);
+        cases::inside(rt, section, choice, row[0], row[1])?;
         i += 1;
     }
+    Ok(())
 }
 
 // The same, of a sleeper.
-pub fn asleep(section: u32, table: &[[u32; 2]]) {
+pub fn asleep(rt: &impl Print, section: u32, table: &[[u32; 2]]) -> io::Result<()> {
     let mut i = 0;
     while i < table.len() {
         let row = table[i];
-        cases::asleep(section, row[0], row[1]);
+        cases::asleep(rt, section, row[0], row[1])?;
         i += 1;
     }
+    Ok(())
 }
 
 // How many sleep, the first two places of the row and its last, and the row's count.
-pub fn sleepers(section: u32, table: &[[u32; 5]]) {
+pub fn sleepers(rt: &impl Print, section: u32, table: &[[u32; 5]]) -> io::Result<()> {
     let mut i = 0;
     while i < table.len() {
         let row = table[i];
-        cases::row(section, row[0], row[1], row[2], row[3], row[4]);
+        cases::row(rt, section, row[0], row[1], row[2], row[3], row[4])?;
         i += 1;
     }
+    Ok(())
 }
 
 // A kind of word, the object, the word, and how many hold the mutex of that number; `started` notes that an act
 // other than set was accepted.
-pub fn words(section: u32, started: bool, table: &[[u32; 4]]) {
+pub fn words(rt: &impl Print, section: u32, started: bool, table: &[[u32; 4]]) -> io::Result<()> {
     let mut i = 0;
     while i < table.len() {
         let row = table[i];
-        cases::word(section, started, row[0], row[1], row[2], row[3]);
+        cases::word(rt, section, started, row[0], row[1], row[2], row[3])?;
         i += 1;
     }
+    Ok(())
 }
 
 // An RwLock, its state, its forgotten reads, the reads of two threads, and how many write.
-pub fn locks(section: u32, started: bool, table: &[[u32; 6]]) {
+pub fn locks(rt: &impl Print, section: u32, started: bool, table: &[[u32; 6]]) -> io::Result<()> {
     let mut i = 0;
     while i < table.len() {
         let row = table[i];
         cases::lock(
-            section, started, row[0], row[1], row[2], row[3], row[4], row[5],
-        );
+            rt, section, started, row[0], row[1], row[2], row[3], row[4], row[5],
+        )?;
         i += 1;
     }
+    Ok(())
 }
 
 // A world, the record's act, choice, thread, object and value, and a refusal of less precedence that applies too.
-pub fn records(section: u32, table: &[[u32; 7]]) {
+pub fn records(rt: &impl Print, section: u32, table: &[[u32; 7]]) -> io::Result<()> {
     let mut i = 0;
     while i < table.len() {
         let row = table[i];
         cases::told(
-            section, row[0], row[1], row[2], row[3], row[4], row[5], row[6],
-        );
+            rt, section, row[0], row[1], row[2], row[3], row[4], row[5], row[6],
+        )?;
         i += 1;
     }
+    Ok(())
 }

@@ -1,6 +1,7 @@
 // Clause 3 of soundness: each sleeper is at a futex_wait and stands once in the row, and nobody else does. Places
 // of the row that do not count are 0.
 use crate::{places, rows, terms};
+use std::io;
 
 // Where the row is right, or wrong.
 const ROWS: [[u32; 5]; 28] = [
@@ -54,15 +55,15 @@ const ASLEEP: [[u32; 2]; 16] = [
     [places::IN_A_CLOSURE_OF, 0],
 ];
 
-fn rows_of_sleepers() {
-    rows::sleepers(terms::SLEEPERS, &ROWS);
+fn rows_of_sleepers(rt: &impl Print) -> io::Result<()> {
+    rows::sleepers(rt, terms::SLEEPERS, &ROWS)
 }
 
-fn sleepers() {
-    rows::asleep(terms::ASLEEP, &ASLEEP);
+fn sleepers(rt: &impl Print) -> io::Result<()> {
+    rows::asleep(rt, terms::ASLEEP, &ASLEEP)
 }
 
-pub fn lines() {
-    rows_of_sleepers();
-    sleepers();
+pub fn lines(rt: &impl Print) -> io::Result<()> {
+    rows_of_sleepers(rt)?;
+    sleepers(rt)
 }

@@ -1,5 +1,6 @@
 // Clause 8 of soundness: while no act other than set was accepted, set acts make the world from a fresh one.
 use crate::{cases, rows, terms, worlds};
+use std::io;
 
 const WORDS: [[u32; 4]; 12] = [
     [cases::MUTEX, 0, 0, 0],
@@ -32,8 +33,8 @@ const THREADS: [[u32; 7]; 2] = [
     [worlds::ASLEEP_WITHOUT_A_NOTE_OF_IT, 0, 1, 0, 0, 7, 0],
 ];
 
-pub fn lines() {
-    rows::words(terms::STARTS, false, &WORDS);
-    rows::locks(terms::STARTS, false, &LOCKS);
-    rows::records(terms::STARTS, &THREADS);
+pub fn lines(rt: &impl Print) -> io::Result<()> {
+    rows::words(rt, terms::STARTS, false, &WORDS)?;
+    rows::locks(rt, terms::STARTS, false, &LOCKS)?;
+    rows::records(rt, terms::STARTS, &THREADS)
 }

@@ -1,12 +1,13 @@
 // The terms that lines are made of.
 use crate::text;
+use std::io;
 
 const COUNT: usize = 112;
 
 const WIDTH: usize = 40;
 
 // Each filled up with full stops, in the groups below.
-const TERMS: [u8; COUNT * WIDTH] = *b"\
+const TERMS: &[u8; COUNT * WIDTH] = b"\
     names: .................................\
     values: ................................\
     sleepers: ..............................\
@@ -165,11 +166,12 @@ pub const WORLDS: u32 = 82;
 pub const EVENTS: u32 = 102;
 
 // The term's text, up to its first full stop.
-pub fn put(term: u32) {
+pub fn put(rt: &impl Print, term: u32) -> io::Result<()> {
     let i = term as usize;
     if i < COUNT {
         let terms = TERMS;
         let start = i * WIDTH;
-        text::put_up_to_stop(&terms[start..start + WIDTH]);
+        return text::put_up_to_stop(rt, &terms[start..start + WIDTH]);
     }
+    Ok(())
 }

@@ -1,7 +1,8 @@
 // Text on standard output, a piece at a time.
+use std::io;
 
-pub fn put(text: &[u8]) {
-    io::write_all(libc::STDOUT_FILENO, text);
+pub fn put(rt: &impl Print, text: &[u8]) -> io::Result<()> {
+    rt.write_all(text)
 }
 
 // The place of the first full stop, or the end.
@@ -16,11 +17,12 @@ fn stop(text: &[u8]) -> usize {
     i
 }
 
-pub fn put_up_to_stop(text: &[u8]) {
+pub fn put_up_to_stop(rt: &impl Print, text: &[u8]) -> io::Result<()> {
     let end = stop(text);
     if end <= text.len() {
-        put(&text[0..end]);
+        return put(rt, &text[0..end]);
     }
+    Ok(())
 }
 
 // The last hexadecimal digit of `n`.
@@ -29,7 +31,7 @@ fn digit(n: u32) -> u8 {
     digits[(n % 16) as usize]
 }
 
-fn put_hexadecimal(word: u32) {
+fn put_hexadecimal(rt: &impl Print, word: u32) -> io::Result<()> {
     let digits = [
         b'0',
         b'x',
@@ -42,15 +44,14 @@ fn put_hexadecimal(word: u32) {
         digit(word / 0x10),
         digit(word),
     ];
-    put(&digits);
+    put(rt, &digits)
 }
 
 // A space and a number: a small one in decimal digits, a larger one as a word of eight hexadecimal digits.
-pub fn put_number(number: u32) {
-    put(b" ");
+pub fn put_number(rt: &impl Print, number: u32) -> io::Result<()> {
+    put(rt, b" ")?;
     if number < 256 {
-        io::print_decimal(libc::STDOUT_FILENO, number as u64);
-        return;
+        return rt.print(number);
     }
-    put_hexadecimal(number);
+    put_hexadecimal(rt, number)
 }

@@ -1,6 +1,7 @@
 // Clause 2 of soundness: the values at a position have passed the source's tests that lead there. All words are as in
 // a fresh world, so that an exchange of another value fails, and a wait on another value does not sleep.
 use crate::{places, rows, terms};
+use std::io;
 
 // At most 100.
 const SPINS: [[u32; 2]; 18] = [
@@ -110,29 +111,29 @@ const FAILING: [[u32; 2]; 15] = [
     [places::PARK_EXCHANGES, 1],
 ];
 
-fn spins() {
-    rows::places(terms::VALUES, 0, &SPINS);
+fn spins(rt: &impl Print) -> io::Result<()> {
+    rows::places(rt, terms::VALUES, 0, &SPINS)
 }
 
-fn onces() {
-    rows::places(terms::VALUES, 0, &ONCES);
+fn onces(rt: &impl Print) -> io::Result<()> {
+    rows::places(rt, terms::VALUES, 0, &ONCES)
 }
 
-fn reads() {
-    rows::places(terms::VALUES, 0, &READS);
+fn reads(rt: &impl Print) -> io::Result<()> {
+    rows::places(rt, terms::VALUES, 0, &READS)
 }
 
-fn writes() {
-    rows::places(terms::VALUES, 0, &WRITES);
+fn writes(rt: &impl Print) -> io::Result<()> {
+    rows::places(rt, terms::VALUES, 0, &WRITES)
 }
 
-pub fn lines() {
-    spins();
-    onces();
-    reads();
-    writes();
+pub fn lines(rt: &impl Print) -> io::Result<()> {
+    spins(rt)?;
+    onces(rt)?;
+    reads(rt)?;
+    writes(rt)
 }
 
-pub fn failing_lines() {
-    rows::places(terms::FAILING, 1, &FAILING);
+pub fn failing_lines(rt: &impl Print) -> io::Result<()> {
+    rows::places(rt, terms::FAILING, 1, &FAILING)
 }

@@ -1,5 +1,6 @@
 // Clauses 4 to 6 of soundness: the words, by themselves and with the holds.
 use crate::{cases, rows, terms};
+use std::io;
 
 // A mutex word is 0 and no thread holds the mutex, or it is 1 or 2 and one does. Once words are 0 to 7, and
 // writer_notify, condvar and Parker words may be anything.
@@ -78,25 +79,25 @@ const SUMS: [[u32; 6]; 10] = [
     [3, 1, 0, 0, 0, 0],
 ];
 
-fn words() {
-    rows::words(terms::WORDS, true, &WORDS);
+fn words(rt: &impl Print) -> io::Result<()> {
+    rows::words(rt, terms::WORDS, true, &WORDS)
 }
 
-fn reads() {
-    rows::locks(terms::LOCKS, true, &READS);
+fn reads(rt: &impl Print) -> io::Result<()> {
+    rows::locks(rt, terms::LOCKS, true, &READS)
 }
 
-fn writers() {
-    rows::locks(terms::LOCKS, true, &WRITERS);
+fn writers(rt: &impl Print) -> io::Result<()> {
+    rows::locks(rt, terms::LOCKS, true, &WRITERS)
 }
 
-fn sums() {
-    rows::locks(terms::LOCKS, true, &SUMS);
+fn sums(rt: &impl Print) -> io::Result<()> {
+    rows::locks(rt, terms::LOCKS, true, &SUMS)
 }
 
-pub fn lines() {
-    words();
-    reads();
-    writers();
-    sums();
+pub fn lines(rt: &impl Print) -> io::Result<()> {
+    words(rt)?;
+    reads(rt)?;
+    writers(rt)?;
+    sums(rt)
 }

@@ -2,6 +2,7 @@
 // the position's operation may find, and each way that the step may go. The file `stdout`, to which that is
 // held, has what the standard library's own code does there.
 #![tactic(auto)]
+
 mod names;
 mod order;
 mod phrase;
@@ -10,10 +11,12 @@ mod rows;
 mod terms;
 mod text;
 
-fn main() {
-    order::mutex_positions();
-    order::parker_positions();
-    order::condvar_positions();
-    order::once_positions();
-    order::rwlock_positions();
+use std::io;
+
+fn main(rt: HostRuntime) -> io::Result<()> {
+    order::mutex_positions(&rt)?;
+    order::parker_positions(&rt)?;
+    order::condvar_positions(&rt)?;
+    order::once_positions(&rt)?;
+    order::rwlock_positions(&rt)
 }

@@ -11,7 +11,7 @@ const NUMBER: u8 = 2;
 
 // A name is the terms of the call, of the place in it and of a flag; the value is what the position carries, a
 // state, a sequence or the spins to go. `lead` is what is said of it.
-#[derive(Drop)]
+#[derive(Clone, Copy)]
 pub struct Phrase {
     lead: u8,
     call: u8,

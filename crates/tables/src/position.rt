@@ -8,7 +8,7 @@ use rwlock::{RwLockAt, RwLockNext};
 use thread_parking::{ParkerAt, ParkerNext};
 use words::{Hold, Wake};
 
-#[derive(Drop)]
+#[derive(Clone, Copy)]
 pub enum Position {
     Mutex { at: MutexAt },
     Parker { at: ParkerAt },
@@ -20,7 +20,7 @@ pub enum Position {
 // A position with its name, and what its module says of it before any step: the kind of word that the next
 // operation is about, as a term; whether that is a weak exchange; whether it is a futex_wait, and where the
 // call stands after that one.
-#[derive(Drop)]
+#[derive(Clone, Copy)]
 pub struct About {
     pub position: Position,
     pub name: Phrase,
@@ -31,7 +31,7 @@ pub struct About {
 }
 
 // What a step does: the word's new value, the hold and the wake as terms, and how the step ends.
-#[derive(Drop)]
+#[derive(Clone, Copy)]
 pub struct Step {
     pub word: u32,
     pub hold: u8,

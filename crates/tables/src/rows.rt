@@ -4,6 +4,7 @@ use crate::position::{About, Position, Step};
 use crate::text::Line;
 use crate::{names, phrase, position, terms, text};
 use once::{Ending, OnceAt};
+use std::io;
 
 // The words of interest, for any kind but an RwLock's state.
 const SMALL: [u32; 11] = [
@@ -52,7 +53,7 @@ const RWLOCK: [u32; 24] = [
 pub const WRITE_LOCKED: [u32; 4] = [0x3FFF_FFFF, 0x7FFF_FFFF, 0xBFFF_FFFF, 0xFFFF_FFFF];
 
 // The row of one way that the step at the word `found` may go; `way` is the term that says which.
-fn step_row(place: Line, found: u32, way: u8, step: Step) {
+fn step_row(rt: &impl Print, place: Line, found: u32, way: u8, step: Step) -> io::Result<()> {
     let end = step.end;
     let line = text::put_word(place, found);
     let line = terms::put(line, way);
@@ -60,37 +61,41 @@ fn step_row(place: Line, found: u32, way: u8, step: Step) {
     let line = text::put_word(line, step.word);
     let line = terms::put(line, step.hold);
     let line = terms::put(line, step.wake);
-    text::write(phrase::put(line, end));
+    text::write(rt, phrase::put(line, end))
 }
 
 // The row of each way that the step at the word `found` may go: a weak exchange may fail all the same, and
 // of those asleep on the word of a wake of one there may be nobody.
-fn word_rows(place: Line, position: Position, weak: bool, found: u32) {
+fn word_rows(
+    rt: &impl Print,
+    place: Line,
+    position: Position,
+    weak: bool,
+    found: u32,
+) -> io::Result<()> {
     let step = position::decide(position, false, found, false);
     if weak {
-        step_row(place, found, terms::NONE, step);
+        step_row(rt, place, found, terms::NONE, step)?;
         let failed = position::decide(position, true, found, false);
-        step_row(place, found, terms::FAILS, failed);
-        return;
+        return step_row(rt, place, found, terms::FAILS, failed);
     }
     if step.wake == terms::WAKES_ONE {
-        step_row(place, found, terms::NOBODY, step);
+        step_row(rt, place, found, terms::NOBODY, step)?;
         let woke = position::decide(position, false, found, true);
-        step_row(place, found, terms::SOMEBODY, woke);
-        return;
+        return step_row(rt, place, found, terms::SOMEBODY, woke);
     }
-    step_row(place, found, terms::NONE, step);
+    step_row(rt, place, found, terms::NONE, step)
 }
 
 // The row of where a call stands once what it waited for has come.
-fn after_row(start: Line, how: u8, after: Phrase) {
+fn after_row(rt: &impl Print, start: Line, how: u8, after: Phrase) -> io::Result<()> {
     let line = terms::put(start, how);
     let line = text::put_colon(line);
-    text::write(phrase::put(line, after));
+    text::write(rt, phrase::put(line, after))
 }
 
 // The rows of a position at these words and, if it is a futex_wait, of where the call stands after that.
-pub fn rows_at(about: About, words: &[u32]) {
+pub fn rows_at(rt: &impl Print, about: About, words: &[u32]) -> io::Result<()> {
     let position = about.position;
     let name = about.name;
     let after = about.after;
@@ -98,39 +103,40 @@ pub fn rows_at(about: About, words: &[u32]) {
     let place = terms::put(terms::put(start, terms::AT), about.kind);
     let mut i = 0;
     while i < words.len() {
-        word_rows(place, position, about.weak, words[i]);
+        word_rows(rt, place, position, about.weak, words[i])?;
         i += 1;
     }
     if about.waits {
-        after_row(start, terms::WOKEN, after);
+        after_row(rt, start, terms::WOKEN, after)?;
     }
+    Ok(())
 }
 
 // All rows of a position, at the words of interest for the kind that its operation is about; none where there
 // is no operation.
-pub fn rows(about: About) {
+pub fn rows(rt: &impl Print, about: About) -> io::Result<()> {
     if about.kind == terms::NONE {
-        return;
+        return Ok(());
     }
     if about.kind == terms::RWLOCK {
-        rows_at(about, &RWLOCK);
-        return;
+        return rows_at(rt, about, &RWLOCK);
     }
-    rows_at(about, &SMALL);
+    rows_at(rt, about, &SMALL)
 }
 
-fn closing_row(start: Line, at: OnceAt, ending: Ending) {
+fn closing_row(rt: &impl Print, start: Line, at: OnceAt, ending: Ending) -> io::Result<()> {
     after_row(
+        rt,
         start,
         terms::of_ending(ending),
         names::once_name(once::close(ending, at)),
-    );
+    )
 }
 
 // The rows of a closure, which ends in one of three ways.
-pub fn closing_rows(at: OnceAt) {
+pub fn closing_rows(rt: &impl Print, at: OnceAt) -> io::Result<()> {
     let start = phrase::put(text::empty(), names::once_name(at));
-    closing_row(start, at, Ending::Returned);
-    closing_row(start, at, Ending::Poisoned);
-    closing_row(start, at, Ending::Panicked);
+    closing_row(rt, start, at, Ending::Returned)?;
+    closing_row(rt, start, at, Ending::Poisoned)?;
+    closing_row(rt, start, at, Ending::Panicked)
 }

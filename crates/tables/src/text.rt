@@ -1,11 +1,14 @@
 // A line of text: terms, words and numbers, each with a space behind it. A line goes by value, so that many can
 // be made from one beginning.
+ghost use Rattle.std.specs.Prelude.{◌≤◌};
+
+use std::io;
 
 // Room for more than the longest line.
 const ROOM: usize = 160;
 
 // Bytes from `length` on are not part of the line.
-#[derive(Drop)]
+#[derive(Clone, Copy)]
 pub struct Line {
     bytes: [u8; ROOM],
     length: usize,
@@ -67,11 +70,26 @@ pub fn put_word(line: Line, word: u32) -> Line {
     put(line, &digits)
 }
 
+// Lays the decimal digits of `n` at the end of `digits`, and answers where they begin.
+fn decimal(n: u32, digits: &mut [u8; 10]) -> usize
+    ensures { result ≤ 10 }
+{
+    let mut rest = n;
+    for i in (0..10).rev() {
+        digits[i] = b'0' + (rest % 10) as u8;
+        rest /= 10;
+        if rest == 0 {
+            return i;
+        }
+    }
+    0
+}
+
 // A number in decimal digits.
 pub fn put_number(line: Line, number: u32) -> Line {
-    let mut digits = [0; 20];
-    let count = io::decimal(number as u64, &mut digits);
-    put(put(line, &digits[..count]), b" ")
+    let mut digits = [0; 10];
+    let start = decimal(number, &mut digits);
+    put(put(line, &digits[start..]), b" ")
 }
 
 // The line with `byte` in place of the space at its end.
@@ -95,15 +113,16 @@ pub fn put_colon(line: Line) -> Line {
     put(closed(line, b':'), b" ")
 }
 
-fn write_first(bytes: &[u8], count: usize) {
+fn write_first(rt: &impl Print, bytes: &[u8], count: usize) -> io::Result<()> {
     if count <= bytes.len() {
-        io::write_all(libc::STDOUT_FILENO, &bytes[0..count]);
+        return rt.write_all(&bytes[0..count]);
     }
+    Ok(())
 }
 
 // Writes the line, and ends it.
-pub fn write(line: Line) {
+pub fn write(rt: &impl Print, line: Line) -> io::Result<()> {
     let ended = closed(line, b'\n');
     let bytes = ended.bytes;
-    write_first(&bytes, ended.length);
+    write_first(rt, &bytes, ended.length)
 }
