@@ -1,11 +1,10 @@
 -- Over all modules: a step looks at the choice only where a weak exchange is next, at the sleepers only where it may wake some, and
 -- wakes nobody elsewhere; and a call just begun is in the call of that number. Assumes nothing.
 use mathlib.Core.Path.{◌≡◌, refl}
-use mathlib.Core.Bool.{Bool, true, false}
+use mathlib.Core.Bool.{Bool, false}
 use mathlib.Core.List.{List, [], ◌∷◌, map}
 use Prim.Native.Nat.{ℕ}
 use Rattle.words.specs.Parker.{PARKED}
-use Rattle.words.specs.declared.Wake.{Wake}
 use Rattle.words.specs.declared.Wake.TheVariants as W
 use Rattle.mutex.specs.declared.MutexAt.{MutexAt}
 use Rattle.mutex.specs.declared.MutexStep.{MutexStep}

@@ -1,5 +1,5 @@
 -- How many objects of each kind there are, and where each one's word stands in the row of all words. Assumes nothing.
-use Rattle.std.specs.Prelude.{ℕ, ◌+◌, Bool, cond, ltb}
+use Rattle.std.specs.Prelude.{ℕ, ◌+◌, cond, ltb}
 use Rattle.queue.specs.Row.{THREADS}
 use Rattle.words.specs.declared.Kind.{Kind}
 use Rattle.words.specs.declared.Kind.TheVariants as K

@@ -1,9 +1,7 @@
 -- What holds of each position over all modules: its word, where a wait leads on, what it needs, which call it is in. Assumes nothing.
 use Rattle.std.specs.Prelude.{ℕ, Bool, true, false, cond, ◌&&◌, eqb, ltb}
 use Rattle.queue.specs.Row.{THREADS}
-use Rattle.words.specs.declared.Needs.{Needs}
 use Rattle.words.specs.declared.Needs.TheVariants as N
-use Rattle.words.specs.declared.Kind.TheVariants as K
 use Rattle.mutex.specs.declared.MutexCall.TheVariants as MC
 use Rattle.rwlock.specs.declared.RwLockCall.TheVariants as RC
 use Rattle.condvar.specs.declared.CondvarCall.TheVariants as CC

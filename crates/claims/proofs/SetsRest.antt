@@ -14,7 +14,7 @@ use Rattle.words.specs.Once.{INCOMPLETE}
 use Rattle.words.specs.Parker.{EMPTY}
 use Rattle.words.specs.declared.Kind.TheVariants as K
 use Rattle.queue.specs.declared.Row.{Row}
-use Rattle.queue.specs.Row.{THREADS, sleepers, empty_row}
+use Rattle.queue.specs.Row.{THREADS, empty_row}
 use Rattle.queue.proofs.Laws.{empty-length}
 use Rattle.queue.proofs.Tidy.{tidy-equal, empty-tidy}
 use Rattle.calls.specs.declared.At.{At}

@@ -1,7 +1,7 @@
 -- No step on a condvar looks at the choice or at the sleepers, and only the wakes of a notify and of a wait's unlock wake anybody.
 -- Assumes nothing.
 use mathlib.Core.Path.{◌≡◌, refl}
-use mathlib.Core.Bool.{Bool, true, false}
+use mathlib.Core.Bool.{Bool, false}
 use Prim.Native.Nat.{ℕ}
 use lib.Dec.{eqb}
 use Rattle.words.proofs.Cond.{either}
@@ -14,7 +14,7 @@ use Rattle.condvar.specs.declared.NotifyAt.TheVariants as Nf
 use Rattle.condvar.specs.declared.CondvarAt.{CondvarAt}
 use Rattle.condvar.specs.declared.CondvarAt.TheVariants as A
 use Rattle.condvar.specs.declared.CondvarStep.{CondvarStep}
-use Rattle.condvar.specs.Condvar.{moves, sleeps, ends, unlock_step, relock_step, wait_of, notify_of, decide_of, may_wake, wait_may_wake, notify_may_wake}
+use Rattle.condvar.specs.Condvar.{moves, sleeps, unlock_step, relock_step, wait_of, notify_of, decide_of, may_wake, wait_may_wake, notify_may_wake}
 
 -- the choice and the sleepers decide nothing
 pub plain : (at : CondvarAt) (f g : Bool) (word : ℕ) (a b : Bool) → decide_of at f word a ≡ decide_of at g word b

@@ -1,7 +1,6 @@
 -- condvar/futex.rs, a step at a time; the mutex's part of a wait is the mutex's own. Assumes nothing.
 use Rattle.std.specs.Prelude.{ℕ, Bool, true, false, cond, eqb}
 use Rattle.words.specs.Counter.{incremented}
-use Rattle.words.specs.declared.Hold.{Hold}
 use Rattle.words.specs.declared.Hold.TheVariants as H
 use Rattle.words.specs.declared.Kind.{Kind}
 use Rattle.words.specs.declared.Kind.TheVariants as K
@@ -9,12 +8,10 @@ use Rattle.words.specs.declared.Needs.{Needs}
 use Rattle.words.specs.declared.Needs.TheVariants as N
 use Rattle.words.specs.declared.Wake.{Wake}
 use Rattle.words.specs.declared.Wake.TheVariants as W
-use Rattle.mutex.specs.declared.LockAt.{LockAt}
 use Rattle.mutex.specs.declared.LockAt.TheVariants as L
 use Rattle.mutex.specs.declared.LockNext.{LockNext}
 use Rattle.mutex.specs.declared.LockNext.TheVariants as LN
 use Rattle.mutex.specs.declared.LockStep.{LockStep}
-use Rattle.mutex.specs.declared.UnlockAt.{UnlockAt}
 use Rattle.mutex.specs.declared.UnlockAt.TheVariants as U
 use Rattle.mutex.specs.declared.UnlockNext.{UnlockNext}
 use Rattle.mutex.specs.declared.UnlockNext.TheVariants as UN

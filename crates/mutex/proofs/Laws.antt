@@ -1,11 +1,10 @@
 -- No step of a mutex looks at the choice or at the sleepers, and only `unlock`'s wake wakes anybody. Assumes nothing.
 use mathlib.Core.Path.{◌≡◌, refl}
-use mathlib.Core.Bool.{Bool, true, false, not, ◌&&◌}
-use Prim.Native.Nat.{ℕ, ◌-◌}
+use mathlib.Core.Bool.{Bool, false, not, ◌&&◌}
+use Prim.Native.Nat.{ℕ}
 use lib.Dec.{eqb}
 use Rattle.words.proofs.Cond.{either}
-use Rattle.words.specs.Atomic.{SPINS}
-use Rattle.words.specs.Mutex.{LOCKED, CONTENDED, is_unlocked, is_locked, is_contended}
+use Rattle.words.specs.Mutex.{is_unlocked, is_locked, is_contended}
 use Rattle.words.specs.declared.Wake.TheVariants as W
 use Rattle.mutex.specs.declared.LockAt.{LockAt}
 use Rattle.mutex.specs.declared.LockAt.TheVariants as L
@@ -16,7 +15,7 @@ use Rattle.mutex.specs.declared.MutexAt.TheVariants as M
 use Rattle.mutex.specs.declared.LockStep.{LockStep}
 use Rattle.mutex.specs.declared.UnlockStep.{UnlockStep}
 use Rattle.mutex.specs.declared.MutexStep.{MutexStep}
-use Rattle.mutex.specs.Mutex.{moves, sleeps, takes, contended, spun, lock_of, try_lock_of, unlock_of, lock_step, unlock_step, decide_of, may_wake, unlock_may_wake, lock_after_wait}
+use Rattle.mutex.specs.Mutex.{moves, sleeps, takes, contended, spun, lock_of, try_lock_of, unlock_of, lock_step, unlock_step, decide_of, may_wake, unlock_may_wake}
 
 -- the choice and the sleepers decide nothing
 pub plain : (at : MutexAt) (f g : Bool) (word : ℕ) (a b : Bool) → decide_of at f word a ≡ decide_of at g word b

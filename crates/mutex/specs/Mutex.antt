@@ -2,13 +2,11 @@
 use Rattle.std.specs.Prelude.{ℕ, ◌-◌, Bool, true, false, not, cond, ◌&&◌, eqb, leb}
 use Rattle.words.specs.Atomic.{SPINS}
 use Rattle.words.specs.Mutex.{UNLOCKED, LOCKED, CONTENDED, is_unlocked, is_locked, is_contended}
-use Rattle.words.specs.declared.Hold.{Hold}
 use Rattle.words.specs.declared.Hold.TheVariants as H
 use Rattle.words.specs.declared.Kind.{Kind}
 use Rattle.words.specs.declared.Kind.TheVariants as K
 use Rattle.words.specs.declared.Needs.{Needs}
 use Rattle.words.specs.declared.Needs.TheVariants as N
-use Rattle.words.specs.declared.Wake.{Wake}
 use Rattle.words.specs.declared.Wake.TheVariants as W
 use Rattle.mutex.specs.declared.MutexCall.{MutexCall}
 use Rattle.mutex.specs.declared.MutexCall.TheVariants as C

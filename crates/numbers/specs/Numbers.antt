@@ -1,6 +1,6 @@
 -- P1 to P12 of document 01's numbers on both sides, as one list that the checker computes through the definitions of the acts and of the
 -- solo run, soundness and refusals included, from worlds that the same list shows sound. Assumes nothing.
-use Rattle.std.specs.Prelude.{ℕ, Bool, true, false, cond, not, ◌&&◌, List, [], ◌∷◌, T, eqb, ltb}
+use Rattle.std.specs.Prelude.{ℕ, Bool, true, not, ◌&&◌, List, [], ◌∷◌, T, eqb}
 use Rattle.calls.specs.declared.Event.{Event}
 use Rattle.calls.specs.declared.Event.TheVariants as E
 use Rattle.calls.specs.Events.{value_of}

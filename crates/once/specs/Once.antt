@@ -19,7 +19,6 @@ use Rattle.once.specs.declared.WaitAt.{WaitAt}
 use Rattle.once.specs.declared.WaitAt.TheVariants as Wt
 use Rattle.once.specs.declared.OnceAt.{OnceAt}
 use Rattle.once.specs.declared.OnceAt.TheVariants as A
-use Rattle.once.specs.declared.OnceNext.{OnceNext}
 use Rattle.once.specs.declared.OnceNext.TheVariants as ON
 use Rattle.once.specs.declared.OnceStep.{OnceStep}
 

@@ -22,7 +22,6 @@ use Rattle.rwlock.specs.declared.DowngradeAt.{DowngradeAt}
 use Rattle.rwlock.specs.declared.DowngradeAt.TheVariants as D
 use Rattle.rwlock.specs.declared.RwLockAt.{RwLockAt}
 use Rattle.rwlock.specs.declared.RwLockAt.TheVariants as A
-use Rattle.rwlock.specs.declared.RwLockNext.{RwLockNext}
 use Rattle.rwlock.specs.declared.RwLockNext.TheVariants as RN
 use Rattle.rwlock.specs.declared.RwLockStep.{RwLockStep}
 

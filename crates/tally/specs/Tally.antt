@@ -1,5 +1,5 @@
 -- What an event adds to each of a tally's five counts. Assumes nothing.
-use Rattle.std.specs.Prelude.{ℕ, ◌+◌, Bool, true, false, cond, ◌&&◌, ◌||◌, leb, eqb}
+use Rattle.std.specs.Prelude.{ℕ, ◌+◌, Bool, cond, ◌&&◌, ◌||◌, leb, eqb}
 use Rattle.calls.specs.declared.At.{At}
 use Rattle.calls.specs.declared.Event.{Event}
 use Rattle.calls.specs.declared.Event.TheVariants as E

@@ -1,6 +1,6 @@
 -- No step on a Parker looks at the choice or at the sleepers, and only `unpark`'s wake wakes anybody. Assumes nothing.
 use mathlib.Core.Path.{◌≡◌, refl}
-use mathlib.Core.Bool.{Bool, true, false}
+use mathlib.Core.Bool.{Bool, false}
 use Prim.Native.Nat.{ℕ}
 use Rattle.words.proofs.Cond.{either}
 use Rattle.words.specs.declared.Wake.TheVariants as W

@@ -1,6 +1,6 @@
 -- thread_parking/futex.rs, a step at a time, over the value that stands for PARKED. Assumes nothing.
-use Rattle.std.specs.Prelude.{ℕ, Bool, true, false, cond, eqb}
-use Rattle.words.specs.Parker.{PARKED, EMPTY, NOTIFIED, is_parked, is_notified, less_one}
+use Rattle.std.specs.Prelude.{ℕ, Bool, true, false, cond}
+use Rattle.words.specs.Parker.{EMPTY, NOTIFIED, is_parked, is_notified, less_one}
 use Rattle.words.specs.declared.Kind.{Kind}
 use Rattle.words.specs.declared.Kind.TheVariants as K
 use Rattle.words.specs.declared.Needs.{Needs}
@@ -15,7 +15,6 @@ use Rattle.thread_parking.specs.declared.UnparkAt.{UnparkAt}
 use Rattle.thread_parking.specs.declared.UnparkAt.TheVariants as U
 use Rattle.thread_parking.specs.declared.ParkerAt.{ParkerAt}
 use Rattle.thread_parking.specs.declared.ParkerAt.TheVariants as A
-use Rattle.thread_parking.specs.declared.ParkerNext.{ParkerNext}
 use Rattle.thread_parking.specs.declared.ParkerNext.TheVariants as PN
 use Rattle.thread_parking.specs.declared.ParkerStep.{ParkerStep}
 
