@@ -4,7 +4,9 @@
 #![tactic(auto, unfolding(crate::specs::Events::tell_of, crate::specs::Events::value_of, crate::specs::Events::woken_of, crate::specs::Objects::word_of, crate::specs::Plans::condvar_plan, crate::specs::Plans::decide_of, crate::specs::Plans::done, crate::specs::Plans::entered, crate::specs::Plans::moved, crate::specs::Plans::mutex_plan, crate::specs::Plans::once_plan, crate::specs::Plans::panicked, crate::specs::Plans::parker_plan, crate::specs::Plans::rwlock_plan, crate::specs::Plans::slept, crate::specs::Positions::after_wait, crate::specs::Positions::call_of, crate::specs::Positions::condvar_call, crate::specs::Positions::condvar_exists, crate::specs::Positions::entry_of, crate::specs::Positions::exists, crate::specs::Positions::in_closure, crate::specs::Positions::is_idle, crate::specs::Positions::may_wake, crate::specs::Positions::mutex_call, crate::specs::Positions::need_of, crate::specs::Positions::once_call, crate::specs::Positions::operand_of, crate::specs::Positions::parker_call, crate::specs::Positions::parker_exists, crate::specs::Positions::passed_of, crate::specs::Positions::rwlock_call, crate::specs::Positions::waits_of, crate::specs::Positions::weak_next))]
 
 ghost use Rattle.std.specs.Prelude.{◌≡◌, cond};
-ghost use Rattle.calls.specs.Objects.{size_of, base_of, word_of};
+ghost use Rattle.calls.specs.Objects.{WORDS, size_of, base_of, word_of};
+ghost use Rattle.words.specs.Found.{found};
+ghost use Rattle.calls.specs.Calls.{Names, number_of, told_call};
 ghost use Rattle.calls.specs.Events.{value_of, woken_of, tell_of};
 ghost use Rattle.calls.specs.Plans.{moved, slept, done, panicked, entered, mutex_plan, rwlock_plan, condvar_plan, once_plan, parker_plan, decide_of};
 ghost use Rattle.calls.specs.Positions.{entry_of, mutex_call, rwlock_call, condvar_call, once_call, parker_call, call_of, operand_of, after_wait, waits_of, may_wake, weak_next, passed_of, is_idle, in_closure, need_of, condvar_exists, parker_exists, exists};
@@ -29,6 +31,68 @@ pub const ONCES: usize = 4;
 // The row of all words: mutexes, RwLock states, writer_notify words, condvars, Onces, then a Parker for
 // each thread.
 pub const WORDS: usize = MUTEXES + RWLOCKS + RWLOCKS + CONDVARS + ONCES + THREADS;
+
+// The calls of a schedule, in the order of their numbers.
+#[derive(Clone, Copy, Debug, PartialEq, Eq)]
+pub enum Call {
+    Lock,
+    TryLock,
+    Unlock,
+    Read,
+    TryRead,
+    ReadUnlock,
+    Write,
+    TryWrite,
+    WriteUnlock,
+    Downgrade,
+    CondvarWait,
+    NotifyOne,
+    NotifyAll,
+    OnceCall,
+    // .. with ignore_poisoning, as the next but one
+    OnceCallForce,
+    OnceWait,
+    OnceWaitForce,
+    IsCompleted,
+    Park,
+    Unpark,
+}
+
+// A number that names no call.
+#[derive(Clone, Copy, Debug, PartialEq, Eq)]
+pub struct NoCall;
+
+impl TryFrom<u8> for Call {
+    type Error = NoCall;
+
+    ghost try_from_gives = { Names };
+
+    fn try_from(number: u8) -> Result<Self, NoCall> {
+        match number {
+            0 => Ok(Call::Lock),
+            1 => Ok(Call::TryLock),
+            2 => Ok(Call::Unlock),
+            3 => Ok(Call::Read),
+            4 => Ok(Call::TryRead),
+            5 => Ok(Call::ReadUnlock),
+            6 => Ok(Call::Write),
+            7 => Ok(Call::TryWrite),
+            8 => Ok(Call::WriteUnlock),
+            9 => Ok(Call::Downgrade),
+            10 => Ok(Call::CondvarWait),
+            11 => Ok(Call::NotifyOne),
+            12 => Ok(Call::NotifyAll),
+            13 => Ok(Call::OnceCall),
+            14 => Ok(Call::OnceCallForce),
+            15 => Ok(Call::OnceWait),
+            16 => Ok(Call::OnceWaitForce),
+            17 => Ok(Call::IsCompleted),
+            18 => Ok(Call::Park),
+            19 => Ok(Call::Unpark),
+            _ => Err(NoCall),
+        }
+    }
+}
 
 // Where a thread stands: idle, or in a call on an object.
 #[derive(Clone, Copy)]
@@ -111,18 +175,15 @@ fn base_of(kind: Kind) -> usize
     }
 }
 
-// The number of the word of an object; WORDS where there is none.
-pub fn word_number(kind: Kind, object: u8) -> usize
-    ensures { result ≡ word_of kind object }
+// The number of the word of an object, where there is one.
+pub fn word_number(kind: Kind, object: u8) -> Option<usize>
+    ensures { result ≡ found WORDS (word_of kind object) }
 {
-    let size = size_of(kind);
-    let base = base_of(kind);
-    let index = object as usize;
-    let there = index < size;
-    if there {
-        return base + index;
+    let index = usize::from(object);
+    if index < size_of(kind) {
+        return Some(base_of(kind) + index);
     }
-    WORDS
+    None
 }
 
 // The value that is told of an event: 1 or 0 for done, the number of a panic or a refusal, else 0.
@@ -398,185 +459,147 @@ pub fn decide(at: At, fails: bool, word: u32, anyone: bool) -> Plan
     }
 }
 
-// Where a call starts, by its number: a number that names no call starts none. `mutex` is the one that a
-// condvar wait names.
+// Where a call starts; `mutex` is the one that a condvar wait names.
+pub fn start(call: Call, object: u8, mutex: u8) -> At
+    ensures { result ≡ entry_of (number_of call) object mutex }
+{
+    let at_mutex = |call| At::Mutex {
+        mutex: object,
+        at: mutex::entry(call),
+    };
+    let at_lock = |call| At::RwLock {
+        lock: object,
+        at: rwlock::entry(call),
+    };
+    let at_condvar = |call| At::Condvar {
+        condvar: object,
+        at: condvar::entry(call),
+    };
+    let at_once = |call| At::Once {
+        once: object,
+        at: once::entry(call),
+    };
+    let at_parker = |call| At::Parker {
+        at: thread_parking::entry(call),
+    };
+    match call {
+        Call::Lock => at_mutex(MutexCall::Lock),
+        Call::TryLock => at_mutex(MutexCall::TryLock),
+        Call::Unlock => at_mutex(MutexCall::Unlock),
+        Call::Read => at_lock(RwLockCall::Read),
+        Call::TryRead => at_lock(RwLockCall::TryRead),
+        Call::ReadUnlock => at_lock(RwLockCall::ReadUnlock),
+        Call::Write => at_lock(RwLockCall::Write),
+        Call::TryWrite => at_lock(RwLockCall::TryWrite),
+        Call::WriteUnlock => at_lock(RwLockCall::WriteUnlock),
+        Call::Downgrade => at_lock(RwLockCall::Downgrade),
+        Call::CondvarWait => at_condvar(CondvarCall::Wait { mutex }),
+        Call::NotifyOne => at_condvar(CondvarCall::NotifyOne),
+        Call::NotifyAll => at_condvar(CondvarCall::NotifyAll),
+        Call::OnceCall => at_once(OnceCall::Call { ignores: false }),
+        Call::OnceCallForce => at_once(OnceCall::Call { ignores: true }),
+        Call::OnceWait => at_once(OnceCall::Wait { ignores: false }),
+        Call::OnceWaitForce => at_once(OnceCall::Wait { ignores: true }),
+        Call::IsCompleted => at_once(OnceCall::IsCompleted),
+        Call::Park => at_parker(ParkerCall::Park),
+        Call::Unpark => at_parker(ParkerCall::Unpark { thread: object }),
+    }
+}
+
+// Where a call starts, by its number: a number that names no call starts none.
 pub fn entry(call: u8, object: u8, mutex: u8) -> At
     ensures { result ≡ entry_of call object mutex }
 {
-    match call {
-        0 => At::Mutex {
-            mutex: object,
-            at: mutex::entry(MutexCall::Lock),
-        },
-        1 => At::Mutex {
-            mutex: object,
-            at: mutex::entry(MutexCall::TryLock),
-        },
-        2 => At::Mutex {
-            mutex: object,
-            at: mutex::entry(MutexCall::Unlock),
-        },
-        3 => At::RwLock {
-            lock: object,
-            at: rwlock::entry(RwLockCall::Read),
-        },
-        4 => At::RwLock {
-            lock: object,
-            at: rwlock::entry(RwLockCall::TryRead),
-        },
-        5 => At::RwLock {
-            lock: object,
-            at: rwlock::entry(RwLockCall::ReadUnlock),
-        },
-        6 => At::RwLock {
-            lock: object,
-            at: rwlock::entry(RwLockCall::Write),
-        },
-        7 => At::RwLock {
-            lock: object,
-            at: rwlock::entry(RwLockCall::TryWrite),
-        },
-        8 => At::RwLock {
-            lock: object,
-            at: rwlock::entry(RwLockCall::WriteUnlock),
-        },
-        9 => At::RwLock {
-            lock: object,
-            at: rwlock::entry(RwLockCall::Downgrade),
-        },
-        10 => At::Condvar {
-            condvar: object,
-            at: condvar::entry(CondvarCall::Wait { mutex: mutex }),
-        },
-        11 => At::Condvar {
-            condvar: object,
-            at: condvar::entry(CondvarCall::NotifyOne),
-        },
-        12 => At::Condvar {
-            condvar: object,
-            at: condvar::entry(CondvarCall::NotifyAll),
-        },
-        13 => At::Once {
-            once: object,
-            at: once::entry(OnceCall::Call { ignores: false }),
-        },
-        14 => At::Once {
-            once: object,
-            at: once::entry(OnceCall::Call { ignores: true }),
-        },
-        15 => At::Once {
-            once: object,
-            at: once::entry(OnceCall::Wait { ignores: false }),
-        },
-        16 => At::Once {
-            once: object,
-            at: once::entry(OnceCall::Wait { ignores: true }),
-        },
-        17 => At::Once {
-            once: object,
-            at: once::entry(OnceCall::IsCompleted),
-        },
-        18 => At::Parker {
-            at: thread_parking::entry(ParkerCall::Park),
-        },
-        19 => At::Parker {
-            at: thread_parking::entry(ParkerCall::Unpark { thread: object }),
-        },
-        _ => At::Idle,
+    match Call::try_from(call) {
+        Ok(call) => start(call, object, mutex),
+        Err(NoCall) => At::Idle,
     }
 }
 
-fn chosen(flag: bool, yes: u8, no: u8) -> u8
-    ensures { result ≡ cond flag yes no }
-{
-    if flag {
-        return yes;
-    }
-    no
-}
-
-fn mutex_call(at: MutexAt) -> u8
-    ensures { result ≡ mutex_call at }
+fn mutex_call(at: MutexAt) -> Call
+    ensures { number_of result ≡ mutex_call at }
 {
     match at {
-        MutexAt::Lock { at: _ } => 0,
-        MutexAt::TryLock => 1,
-        MutexAt::Unlock { at: _ } => 2,
+        MutexAt::Lock { .. } => Call::Lock,
+        MutexAt::TryLock => Call::TryLock,
+        MutexAt::Unlock { .. } => Call::Unlock,
     }
 }
 
-fn rwlock_call(at: RwLockAt) -> u8
-    ensures { result ≡ rwlock_call at }
+fn rwlock_call(at: RwLockAt) -> Call
+    ensures { number_of result ≡ rwlock_call at }
 {
     match at {
-        RwLockAt::Read { at: _ } => 3,
-        RwLockAt::TryRead { at: _ } => 4,
-        RwLockAt::ReadUnlock => 5,
-        RwLockAt::Write { at: _ } => 6,
-        RwLockAt::TryWrite { at: _ } => 7,
-        RwLockAt::WriteUnlock => 8,
-        RwLockAt::Wake { writer, at: _ } => chosen(writer, 8, 5),
-        RwLockAt::Downgrade { at: _ } => 9,
+        RwLockAt::Read { .. } => Call::Read,
+        RwLockAt::TryRead { .. } => Call::TryRead,
+        RwLockAt::ReadUnlock | RwLockAt::Wake { writer: false, .. } => Call::ReadUnlock,
+        RwLockAt::Write { .. } => Call::Write,
+        RwLockAt::TryWrite { .. } => Call::TryWrite,
+        RwLockAt::WriteUnlock | RwLockAt::Wake { writer: true, .. } => Call::WriteUnlock,
+        RwLockAt::Downgrade { .. } => Call::Downgrade,
     }
 }
 
-fn condvar_call(at: CondvarAt) -> u8
-    ensures { result ≡ condvar_call at }
+fn condvar_call(at: CondvarAt) -> Call
+    ensures { number_of result ≡ condvar_call at }
 {
     match at {
-        CondvarAt::Wait { mutex: _, at: _ } => 10,
-        CondvarAt::Notify { all, at: _ } => chosen(all, 12, 11),
+        CondvarAt::Wait { .. } => Call::CondvarWait,
+        CondvarAt::Notify { all: false, .. } => Call::NotifyOne,
+        CondvarAt::Notify { all: true, .. } => Call::NotifyAll,
     }
 }
 
-fn once_call(at: OnceAt) -> u8
-    ensures { result ≡ once_call at }
+fn once_call(at: OnceAt) -> Call
+    ensures { number_of result ≡ once_call at }
 {
     match at {
-        OnceAt::Call { ignores, at: _ } => chosen(ignores, 14, 13),
-        OnceAt::Wait { ignores, at: _ } => chosen(ignores, 16, 15),
-        OnceAt::IsCompleted => 17,
+        OnceAt::Call { ignores: false, .. } => Call::OnceCall,
+        OnceAt::Call { ignores: true, .. } => Call::OnceCallForce,
+        OnceAt::Wait { ignores: false, .. } => Call::OnceWait,
+        OnceAt::Wait { ignores: true, .. } => Call::OnceWaitForce,
+        OnceAt::IsCompleted => Call::IsCompleted,
     }
 }
 
-fn parker_call(at: ParkerAt) -> u8
-    ensures { result ≡ parker_call at }
+fn parker_call(at: ParkerAt) -> Call
+    ensures { number_of result ≡ parker_call at }
 {
     match at {
-        ParkerAt::Park { at: _ } => 18,
-        ParkerAt::Unpark { thread: _, at: _ } => 19,
+        ParkerAt::Park { .. } => Call::Park,
+        ParkerAt::Unpark { .. } => Call::Unpark,
     }
 }
 
-// The number of the call that a position is in; 20, which is none, for an idle thread.
-pub fn call_of(at: At) -> u8
-    ensures { result ≡ call_of at }
+// The call that a position is in; none for an idle thread.
+pub fn call_of(at: At) -> Option<Call>
+    ensures { told_call result ≡ call_of at }
 {
     match at {
-        At::Idle => 20,
-        At::Mutex { mutex: _, at: p } => mutex_call(p),
-        At::RwLock { lock: _, at: p } => rwlock_call(p),
-        At::Condvar { condvar: _, at: p } => condvar_call(p),
-        At::Once { once: _, at: p } => once_call(p),
-        At::Parker { at: p } => parker_call(p),
+        At::Idle => None,
+        At::Mutex { at, .. } => Some(mutex_call(at)),
+        At::RwLock { at, .. } => Some(rwlock_call(at)),
+        At::Condvar { at, .. } => Some(condvar_call(at)),
+        At::Once { at, .. } => Some(once_call(at)),
+        At::Parker { at } => Some(parker_call(at)),
     }
 }
 
-// The number of the word that the next operation of thread t is about, in the row of all words; WORDS,
-// which is past the row, where there is none.
-pub fn operand(t: u8, at: At) -> usize
-    ensures { result ≡ operand_of t at }
+// The number of the word that the next operation of thread t is about, in the row of all words, where there
+// is one.
+pub fn operand(t: u8, at: At) -> Option<usize>
+    ensures { result ≡ found WORDS (operand_of t at) }
 {
     match at {
-        At::Idle => WORDS,
-        At::Mutex { mutex, at: p } => word_number(mutex::operand(p), mutex),
-        At::RwLock { lock, at: p } => word_number(rwlock::operand(p), lock),
-        At::Condvar { condvar, at: p } => {
-            word_number(condvar::operand(p), condvar::object(condvar, p))
+        At::Idle => None,
+        At::Mutex { mutex, at } => word_number(mutex::operand(at), mutex),
+        At::RwLock { lock, at } => word_number(rwlock::operand(at), lock),
+        At::Condvar { condvar, at } => {
+            word_number(condvar::operand(at), condvar::object(condvar, at))
         }
-        At::Once { once, at: p } => word_number(once::operand(p), once),
-        At::Parker { at: p } => {
-            word_number(thread_parking::operand(p), thread_parking::parker(t, p))
+        At::Once { once, at } => word_number(once::operand(at), once),
+        At::Parker { at } => {
+            word_number(thread_parking::operand(at), thread_parking::parker(t, at))
         }
     }
 }

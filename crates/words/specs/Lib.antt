@@ -1,6 +1,7 @@
 pub mod Atomic
 pub mod Counter
 pub mod Determined
+pub mod Found
 pub mod Mutex
 pub mod Once
 pub mod Panic
