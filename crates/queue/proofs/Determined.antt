@@ -3,7 +3,8 @@ use Prim.Native.Nat.{ℕ}
 use mathlib.Core.Bool.{Bool}
 use Rattle.words.specs.Determined.{Determined, determined}
 use Rattle.queue.specs.declared.Row.{Row}
-use Rattle.queue.specs.Row.{sleepers, empty_row, push_of, answer_of, take_out_of, thread_of, found, place_of, without_of, occ, is_tidy}
+use Rattle.words.specs.Found.{found}
+use Rattle.queue.specs.Row.{THREADS, sleepers, empty_row, push_of, answer_of, take_out_of, thread_of, place_of, without_of, occ, is_tidy}
 
 pub new-determined : Determined empty_row
 new-determined = determined empty_row
@@ -16,8 +17,8 @@ pub take-out-determined : (row : Row) (place : ℕ) → Determined (take_out_of 
 take-out-determined row place = (determined (take_out_of row place).row, determined (thread_of (take_out_of row place)))
 
 -- where the caller's test is f
-pub place-of-determined : (f : ℕ → Bool) (row : Row) → Determined (found (place_of f row))
-place-of-determined f row = determined (found (place_of f row))
+pub place-of-determined : (f : ℕ → Bool) (row : Row) → Determined (found THREADS (place_of f row))
+place-of-determined f row = determined (found THREADS (place_of f row))
 
 pub without-determined : (f : ℕ → Bool) (row : Row) → Determined (without_of f row)
 without-determined f row = determined (without_of f row)

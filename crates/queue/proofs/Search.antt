@@ -12,7 +12,8 @@ use Rattle.std.proofs.Common.{None, Some}
 use Rattle.std.specs.List.{position, position_or_len}
 use Rattle.std.specs.Option.{unwrap_or}
 use Rattle.std.proofs.lemmas.List.Sums.{fails_before_first, passes_at_first}
-use Rattle.queue.specs.Row.{THREADS, passing, removed_at, found}
+use Rattle.words.specs.Found.{found}
+use Rattle.queue.specs.Row.{THREADS, passing, removed_at}
 use Rattle.queue.proofs.Part.{Agree, AllFail, agree-head, agree-tail, occ-place}
 
 -- p is the place of the first in l that passes f
@@ -98,10 +99,10 @@ module _ (f : ℕ → Bool) (l : List ℕ) (k : length l ≤ THREADS) where
       by (inr n) = let e : place_in f l ≡ THREADS = place_none f l n.0 in omega arith
 
   -- the place says what std's `position` says
-  pub found-position : position f l ≡ found (place_in f l)
+  pub found-position : position f l ≡ found THREADS (place_in f l)
   found-position = by searched
     where
-      by : Searched → position f l ≡ found (place_in f l)
+      by : Searched → position f l ≡ found THREADS (place_in f l)
       by (inl w) = rw (lt-ltb (place_in f l) THREADS w.2) w.1
       by (inr n) = rw n.1
 

@@ -98,10 +98,6 @@ Tests post f = (t : ℕ) (b : Bool) → t < 256 → post t b → b ≡ f t
 unfoldable pub place_of : (ℕ → Bool) → Row → ℕ
 place_of f row = unwrap_or (position f (sleepers row)) THREADS
 
--- a place, if it is one of a row
-abbrev pub found : ℕ → Option ℕ
-found place = cond (ltb place THREADS) (Some place) None
-
 -- the row without those who pass a test
 unfoldable pub without_of : (ℕ → Bool) → Row → Row
 without_of f row = row_of (failing f (sleepers row))

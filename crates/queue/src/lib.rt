@@ -4,7 +4,8 @@
 #![tactic(auto, unfolding(crate::specs::Row::is_tidy, crate::specs::Row::passing, crate::specs::Row::push_of, crate::specs::Row::pushed, crate::specs::Row::row_of, crate::specs::Row::take_out_of, crate::specs::Row::without_of))]
 
 ghost use Rattle.std.specs.Prelude.{ℕ, Bool, ◌≡◌};
-ghost use Rattle.queue.specs.Row.{THREADS, sleepers, empty_row, push_of, answer_of, take_out_of, thread_of, Tests, found, place_of, without_of, occ, is_tidy};
+ghost use Rattle.words.specs.Found.{found};
+ghost use Rattle.queue.specs.Row.{THREADS, sleepers, empty_row, push_of, answer_of, take_out_of, thread_of, Tests, place_of, without_of, occ, is_tidy};
 
 // How many threads there are: so many places has a row, since no thread sleeps twice.
 pub const THREADS: usize = 32;
@@ -76,7 +77,7 @@ impl Row {
     // The place of the longest asleep of those wanted.
     pub fn place_of<F: Fn(u8) -> bool>(&self, wanted: F) -> Option<usize>
         requires { F.IsAlwaysCallable wanted }
-        ensures { (f : ℕ → Bool) → Tests (F.post wanted) f → result ≡ found (place_of f self.now) }
+        ensures { (f : ℕ → Bool) → Tests (F.post wanted) f → result ≡ found THREADS (place_of f self.now) }
     {
         self.sleepers()
             .iter()
