@@ -3,7 +3,7 @@
 #![tactic(auto, unfolding(crate::specs::Ranges::all_from, crate::specs::Ranges::count_from, crate::specs::Ranges::sum_from, crate::specs::Sound::asleep_count, crate::specs::Sound::count_agrees, crate::specs::Sound::every_sleeper_stands, crate::specs::Sound::is_asleep, crate::specs::Sound::lock_agrees, crate::specs::Sound::lock_is_set, crate::specs::Sound::locks_agree, crate::specs::Sound::locks_are_set, crate::specs::Sound::mutex_agrees, crate::specs::Sound::mutex_holders, crate::specs::Sound::mutex_in_range, crate::specs::Sound::mutex_rests, crate::specs::Sound::mutexes_agree, crate::specs::Sound::mutexes_in_range, crate::specs::Sound::mutexes_rest, crate::specs::Sound::name_exists, crate::specs::Sound::names_exist, crate::specs::Sound::need_held, crate::specs::Sound::needs_held, crate::specs::Sound::nobody_sleeps, crate::specs::Sound::once_in_range, crate::specs::Sound::once_is_set, crate::specs::Sound::onces_are_set, crate::specs::Sound::onces_in_range, crate::specs::Sound::parker_rests, crate::specs::Sound::parkers_rest, crate::specs::Sound::reads_held, crate::specs::Sound::set_alone, crate::specs::Sound::sleeper_stands, crate::specs::Sound::sleepers_stand, crate::specs::Sound::sound_world, crate::specs::Sound::stands_as, crate::specs::Sound::started_or_set, crate::specs::Sound::state_is_set, crate::specs::Sound::thread_rests, crate::specs::Sound::threads_rest, crate::specs::Sound::value_passed, crate::specs::Sound::values_passed, crate::specs::Sound::word_for, crate::specs::Sound::words_in_range, crate::specs::Sound::writers))]
 
 ghost use Rattle.std.specs.Prelude.{◌≡◌};
-ghost use Rattle.sound.specs.Sound.{word_for, names_exist, values_passed, stands_as, every_sleeper_stands, asleep_count, sleepers_stand, mutexes_in_range, onces_in_range, words_in_range, mutex_holders, mutex_agrees, mutexes_agree, writers, reads_held, count_agrees, lock_agrees, locks_agree, needs_held, threads_rest, mutex_rests, mutexes_rest, state_is_set, lock_is_set, locks_are_set, once_is_set, onces_are_set, parkers_rest, set_alone, started_or_set, sound_world};
+ghost use Rattle.sound.specs.Sound.{names_exist, values_passed, stands_as, every_sleeper_stands, asleep_count, sleepers_stand, mutexes_in_range, onces_in_range, words_in_range, mutex_holders, mutex_agrees, mutexes_agree, writers, reads_held, count_agrees, lock_agrees, locks_agree, needs_held, threads_rest, mutex_rests, mutexes_rest, state_is_set, lock_is_set, locks_are_set, once_is_set, onces_are_set, parkers_rest, set_alone, started_or_set, sound_world};
 
 use calls::{MUTEXES, ONCES, RWLOCKS, Thread};
 use queue::THREADS;
@@ -12,13 +12,6 @@ use world::World;
 
 // The most that a Once word can be.
 const ONCE_MOST: u32 = OnceWord::INCOMPLETE + OnceWord::QUEUED;
-
-// The word of an object; 0 where there is none.
-fn word_for(w: &World, kind: Kind, object: u8) -> u32
-    ensures { result ≡ word_for w.now.words kind object }
-{
-    w.word(calls::word_number(kind, object))
-}
 
 // Every position names only objects that exist.
 pub fn names_exist(w: World) -> bool
@@ -67,13 +60,13 @@ pub fn sleepers_stand(w: World) -> bool
 fn mutexes_in_range(w: &World) -> bool
     ensures { result ≡ mutexes_in_range w.now.words }
 {
-    (0..MUTEXES as u8).all(|mutex| word_for(w, Kind::Mutex, mutex) <= MutexWord::CONTENDED)
+    (0..MUTEXES as u8).all(|mutex| w.word_of(Kind::Mutex, mutex) <= MutexWord::CONTENDED)
 }
 
 fn onces_in_range(w: &World) -> bool
     ensures { result ≡ onces_in_range w.now.words }
 {
-    (0..ONCES as u8).all(|once| word_for(w, Kind::Once, once) <= ONCE_MOST)
+    (0..ONCES as u8).all(|once| w.word_of(Kind::Once, once) <= ONCE_MOST)
 }
 
 // Mutex words are 0 to 2, Once words 0 to 7.
@@ -95,7 +88,7 @@ fn mutex_agrees(w: &World, mutex: u8) -> bool
     ensures { result ≡ mutex_agrees w.now.words w.now.locked mutex }
 {
     let holders = mutex_holders(w, mutex);
-    if word_for(w, Kind::Mutex, mutex) == MutexWord::UNLOCKED {
+    if w.word_of(Kind::Mutex, mutex) == MutexWord::UNLOCKED {
         holders == 0
     } else {
         holders == 1
@@ -143,7 +136,7 @@ fn count_agrees(low: u32, writing: usize, held: u64) -> bool
 fn lock_agrees(w: &World, lock: u8) -> bool
     ensures { result ≡ lock_agrees w.now.words w.now.written w.now.reads w.now.forgotten lock }
 {
-    let low = RwLockWord::count(word_for(w, Kind::RwLock, lock));
+    let low = RwLockWord::count(w.word_of(Kind::RwLock, lock));
     count_agrees(low, writers(w, lock), reads_held(w, lock))
 }
 
@@ -170,7 +163,7 @@ fn threads_rest(w: &World) -> bool
 fn mutex_rests(w: &World, mutex: u8) -> bool
     ensures { result ≡ mutex_rests w.now.words w.now.locked mutex }
 {
-    word_for(w, Kind::Mutex, mutex) == MutexWord::UNLOCKED && mutex_holders(w, mutex) == 0
+    w.word_of(Kind::Mutex, mutex) == MutexWord::UNLOCKED && mutex_holders(w, mutex) == 0
 }
 
 fn mutexes_rest(w: &World) -> bool
@@ -192,7 +185,7 @@ fn state_is_set(state: u32, forgotten: u32, writing: usize, held: u64) -> bool
 fn lock_is_set(w: &World, lock: u8) -> bool
     ensures { result ≡ lock_is_set w.now.words w.now.written w.now.reads w.now.forgotten lock }
 {
-    let state = word_for(w, Kind::RwLock, lock);
+    let state = w.word_of(Kind::RwLock, lock);
     state_is_set(
         state,
         w.forgotten_reads(lock),
@@ -210,7 +203,7 @@ fn locks_are_set(w: &World) -> bool
 fn once_is_set(w: &World, once: u8) -> bool
     ensures { result ≡ once_is_set w.now.words once }
 {
-    let word = word_for(w, Kind::Once, once);
+    let word = w.word_of(Kind::Once, once);
     word == OnceWord::INCOMPLETE || word == OnceWord::COMPLETE
 }
 
@@ -223,7 +216,7 @@ fn onces_are_set(w: &World) -> bool
 fn parkers_rest(w: &World) -> bool
     ensures { result ≡ parkers_rest w.now.words }
 {
-    (0..THREADS as u8).all(|t| word_for(w, Kind::Parker, t) == ParkerWord::EMPTY)
+    (0..THREADS as u8).all(|t| w.word_of(Kind::Parker, t) == ParkerWord::EMPTY)
 }
 
 // Whether set acts alone make the world from a fresh one.

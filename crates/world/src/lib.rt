@@ -4,19 +4,20 @@
 
 ghost use Rattle.std.specs.Prelude.{◌≡◌, ◌<◌, ◌+◌, ◌*◌, ◌%◌, get_or};
 ghost use Rattle.queue.specs.Row.{THREADS};
+ghost use Rattle.calls.specs.Objects.{word_of};
 ghost use Rattle.world.specs.World.{fresh_world, sleeps_on, thread_at, word_at};
 ghost use Rattle.world.specs.Holds.{mutex_slot, lock_slot, holds_mutex, holds_write, reads_of, has_hold};
 
-use calls::{At, MUTEXES, Need, RWLOCKS, Thread, WORDS};
+use calls::{At, CONDVARS, MUTEXES, Need, ONCES, RWLOCKS, Thread, WORDS};
 use queue::{Row, THREADS};
-use words::{Needs, OnceWord};
+use words::{Kind, Needs, OnceWord};
 
 // A hold of each thread on each mutex, and on each RwLock.
 pub const MUTEX_HOLDS: usize = THREADS * MUTEXES;
 
 pub const LOCK_HOLDS: usize = THREADS * RWLOCKS;
 
-const FIRST_ONCE: usize = MUTEXES + RWLOCKS + RWLOCKS + calls::CONDVARS;
+const FIRST_ONCE: usize = MUTEXES + RWLOCKS + RWLOCKS + CONDVARS;
 
 #[derive(Clone, Copy)]
 pub struct World {
@@ -45,10 +46,7 @@ pub fn fresh() -> World
     ensures { result ≡ fresh_world }
 {
     let mut words: [u32; WORDS] = [0; WORDS];
-    words[FIRST_ONCE] = OnceWord::INCOMPLETE;
-    words[FIRST_ONCE + 1] = OnceWord::INCOMPLETE;
-    words[FIRST_ONCE + 2] = OnceWord::INCOMPLETE;
-    words[FIRST_ONCE + 3] = OnceWord::INCOMPLETE;
+    words[FIRST_ONCE..FIRST_ONCE + ONCES].fill(OnceWord::INCOMPLETE);
     World {
         words,
         locked: [false; MUTEX_HOLDS],
@@ -62,10 +60,11 @@ pub fn fresh() -> World
 }
 
 // Whether thread t, with this record, sleeps on word k.
+#[tactic(auto, using(crate::proofs::Words::operand_found), unfolding(crate::specs::World::sleeps_on))]
 pub fn sleeps_on(k: usize, t: u8, th: Thread) -> bool
     ensures { result ≡ sleeps_on k t th }
 {
-    th.asleep && calls::operand(t, th.at) == k
+    th.asleep && calls::operand(t, th.at).unwrap_or(WORDS) == k
 }
 
 // The place of thread t's hold of an object, of so many, in the table of holds of its kind.
@@ -103,6 +102,14 @@ impl World {
         ensures { result ≡ word_at self.now k }
     {
         self.words.get(k).copied().unwrap_or(0)
+    }
+
+    // The word of an object; 0 where there is none.
+    #[tactic(auto, using(crate::proofs::Words::word_found))]
+    pub fn word_of(&self, kind: Kind, object: u8) -> u32
+        ensures { result ≡ get_or self.now.words (word_of kind object) 0 }
+    {
+        self.word(calls::word_number(kind, object).unwrap_or(WORDS))
     }
 
     // The reads of an RwLock that nobody will free; 0 where there is no such lock.
