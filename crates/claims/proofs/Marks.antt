@@ -17,6 +17,7 @@ use Rattle.words.specs.declared.Next.{Next}
 use Rattle.words.specs.declared.Next.TheVariants as Nx
 use Rattle.words.specs.declared.Step.{Step}
 use Rattle.words.specs.Steps as St
+use Rattle.words.specs.Steps.{map_step}
 use Rattle.mutex.specs.declared.LockAt.{LockAt}
 use Rattle.mutex.specs.declared.UnlockAt.{UnlockAt}
 use Rattle.mutex.specs.declared.MutexAt.{MutexAt}
@@ -106,14 +107,14 @@ Marked at t p = (is_step p.event ≡ true) × (step_marks at (grants p.event) t 
 
 -- mutex: `lock` takes where it ends, `unlock` frees by its swap
 module _ (m t word : ℕ) where
-  lock-marked : (p : LockAt) (s : Step LockAt) → LockDid p word s → Marked (A.Mutex m (M.Lock p)) t (mutex_plan m (M.Lock p) (Mx.lock_step s))
+  lock-marked : (p : LockAt) (s : Step LockAt) → LockDid p word s → Marked (A.Mutex m (M.Lock p)) t (mutex_plan m (M.Lock p) (map_step M.Lock s))
   unfolding grants marks_of step_marks mutex_marks plan_of moved slept done
   lock-marked p s (lock-moves _ _) = (refl, refl)
   lock-marked p s (lock-marks _) = (refl, refl)
   lock-marked p s (lock-sleeps _ _) = (refl, refl)
   lock-marked p s (lock-takes _ _ _ _) = (refl, refl)
 
-  unlock-marked : (p : UnlockAt) (s : Step UnlockAt) → UnlockDid word p s → Marked (A.Mutex m (M.Unlock p)) t (mutex_plan m (M.Unlock p) (Mx.unlock_step s))
+  unlock-marked : (p : UnlockAt) (s : Step UnlockAt) → UnlockDid word p s → Marked (A.Mutex m (M.Unlock p)) t (mutex_plan m (M.Unlock p) (map_step M.Unlock s))
   unfolding grants marks_of step_marks mutex_marks unlock_marks plan_of moved done
   unlock-marked p s (unlock-wakes-next _) = (refl, refl)
   unlock-marked p s (unlock-ends _) = (refl, refl)

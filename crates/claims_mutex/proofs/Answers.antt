@@ -11,6 +11,7 @@ use Rattle.words.specs.declared.Kind.{Kind}
 use Rattle.words.specs.declared.Kind.TheVariants as K
 use Rattle.words.specs.declared.Wake.TheVariants as W
 use Rattle.words.specs.declared.Step.{Step}
+use Rattle.words.specs.Steps.{map_step}
 use Rattle.mutex.specs.declared.LockAt.{LockAt}
 use Rattle.mutex.specs.declared.LockAt.TheVariants as L
 use Rattle.mutex.specs.declared.UnlockAt.{UnlockAt}
@@ -82,7 +83,7 @@ not-marked : (word : ℕ) {P : Type 0} → word ≡ 0 → word ≡ CONTENDED →
 not-marked word e q = absurd (omega arith)
 
 module _ (m word : ℕ) where
-  lock-leaves : (p : LockAt) (s : Step LockAt) → LockDid p word s → Leaves (A.Mutex m (M.Lock p)) word (mutex_plan m (M.Lock p) (Mx.lock_step s))
+  lock-leaves : (p : LockAt) (s : Step LockAt) → LockDid p word s → Leaves (A.Mutex m (M.Lock p)) word (mutex_plan m (M.Lock p) (map_step M.Lock s))
   unfolding plan_of moved slept done helps mutex_helps operand_of Mx.operand_of
   lock-leaves p s (lock-moves {q} _ l) = by (two_ways (late p))
     where
@@ -100,7 +101,7 @@ module _ (m word : ℕ) where
       by (inr c) = apart refl c (not-marked word e)
 
   unlock-leaves :
-      (p : UnlockAt) (s : Step UnlockAt) → UnlockDid word p s → Leaves (A.Mutex m (M.Unlock p)) word (mutex_plan m (M.Unlock p) (Mx.unlock_step s))
+      (p : UnlockAt) (s : Step UnlockAt) → UnlockDid word p s → Leaves (A.Mutex m (M.Unlock p)) word (mutex_plan m (M.Unlock p) (map_step M.Unlock s))
   unfolding plan_of moved slept done helps mutex_helps Mx.unlock_may_wake operand_of Mx.operand_of
   unlock-leaves p s (unlock-wakes-next e) = answering refl refl (λ t. refl)
   unlock-leaves p s (unlock-ends n) = apart refl refl (λ e. absurd (n e))

@@ -12,6 +12,7 @@ use Rattle.words.specs.declared.Wake.TheVariants as W
 use Rattle.words.specs.declared.Next.TheVariants as Nx
 use Rattle.words.specs.declared.Step.{Step}
 use Rattle.words.specs.Steps as St
+use Rattle.words.specs.Steps.{map_step}
 use Rattle.mutex.specs.declared.LockAt.{LockAt}
 use Rattle.mutex.specs.declared.LockAt.TheVariants as L
 use Rattle.mutex.specs.declared.UnlockAt.{UnlockAt}
@@ -45,7 +46,7 @@ pub data LockDid (p : LockAt) (word : ℕ) : Step LockAt → Type 0 where
       Mx.lock_waits p ≡ true → word ≡ CONTENDED → LockDid p word (record { word = word; next = Nx.Asleep; hold = H.Same; wake = W.None })
   lock-takes :
       {new : ℕ} → word ≡ 0 → new ≢ 0 → new ≤ 2 → (late p ≡ true → new ≡ CONTENDED) →
-      LockDid p word (record { word = new; next = Nx.Ended; hold = H.TakeMutex; wake = W.None })
+      LockDid p word (record { word = new; next = Nx.Ended 1; hold = H.TakeMutex; wake = W.None })
 
 contended-did : (p : LockAt) (word : ℕ) → LockDid p word (Mx.contended word)
 unfolding Mx.contended Mx.lock_passed late
@@ -82,8 +83,8 @@ lock-did (L.SpinAgain left) word =
 -- a step of `unlock`: the swap, which goes on to the wake where the mutex was contended, and the wake
 pub data UnlockDid (word : ℕ) : UnlockAt → Step UnlockAt → Type 0 where
   unlock-wakes-next : word ≡ CONTENDED → UnlockDid word U.Swap (record { word = UNLOCKED; next = Nx.Moved U.Wake; hold = H.FreeMutex; wake = W.None })
-  unlock-ends : word ≢ CONTENDED → UnlockDid word U.Swap (record { word = UNLOCKED; next = Nx.Ended; hold = H.FreeMutex; wake = W.None })
-  unlock-wakes : UnlockDid word U.Wake (record { word = word; next = Nx.Ended; hold = H.Same; wake = W.One })
+  unlock-ends : word ≢ CONTENDED → UnlockDid word U.Swap (record { word = UNLOCKED; next = Nx.Ended 1; hold = H.FreeMutex; wake = W.None })
+  unlock-wakes : UnlockDid word U.Wake (record { word = word; next = Nx.Ended 1; hold = H.Same; wake = W.One })
 
 pub unlock-did : (p : UnlockAt) (word : ℕ) → UnlockDid word p (Mx.unlock_of p word)
 unfolding Mx.unlock_of
@@ -94,7 +95,7 @@ unlock-did U.Swap word =
 unlock-did U.Wake word = unlock-wakes
 
 module _ (m word : ℕ) where
-  lock-kept : (p : LockAt) (s : Step LockAt) → LockDid p word s → Kept (A.Mutex m (M.Lock p)) word (mutex_plan m (M.Lock p) (Mx.lock_step s))
+  lock-kept : (p : LockAt) (s : Step LockAt) → LockDid p word s → Kept (A.Mutex m (M.Lock p)) word (mutex_plan m (M.Lock p) (map_step M.Lock s))
   unfolding plan_of Mx.passed_of Mx.lock_passed Mx.waits_of Mx.needs_of Mx.operand_of passed_of waits_of need_of kind_of object_of largest Did asks held_kind
   lock-kept p s (lock-moves {q} h _) =
       kept_on _ word word (A.Mutex m (M.Lock q)) m W.None locking (λ e _ _. h e) (stores_same _ word) (inl refl)
@@ -108,7 +109,7 @@ module _ (m word : ℕ) where
       (record { wide = λ _. omega arith; small = λ _ _. l; did = λ _. mutex-taken e n })
       (inl refl) (inr (refl, λ t. refl))
 
-  unlock-kept : (p : UnlockAt) (s : Step UnlockAt) → UnlockDid word p s → Kept (A.Mutex m (M.Unlock p)) word (mutex_plan m (M.Unlock p) (Mx.unlock_step s))
+  unlock-kept : (p : UnlockAt) (s : Step UnlockAt) → UnlockDid word p s → Kept (A.Mutex m (M.Unlock p)) word (mutex_plan m (M.Unlock p) (map_step M.Unlock s))
   unfolding plan_of Mx.passed_of Mx.needs_of Mx.unlock_needs Mx.operand_of passed_of need_of kind_of object_of largest Did asks held_kind
   unlock-kept p s (unlock-wakes-next _) =
       kept-moved _ word UNLOCKED (A.Mutex m (M.Unlock U.Wake)) H.FreeMutex m W.None unlocking (λ _ _ _. refl)

@@ -9,7 +9,6 @@ use borrow.Author.Tests.{eq-eqb}
 use Rattle.words.proofs.Cond.{either}
 use Rattle.words.specs.Atomic.{exchanges}
 use Rattle.words.specs.Once.{INCOMPLETE, POISONED, RUNNING, COMPLETE, QUEUED, state_of, is_queued, with_queued, running_with}
-use Rattle.words.specs.Panic.{once_poisoned, closure_panicked}
 use Rattle.words.specs.declared.Hold.TheVariants as H
 use Rattle.words.specs.declared.Kind.{Kind}
 use Rattle.words.specs.declared.Kind.TheVariants as K
@@ -52,7 +51,7 @@ module _ (o word : ℕ) where
         decided P (eqb (state_of word) COMPLETE) _ _
         (λ _. kept-end _ word word 1 0 W.None (stores_same _ word))
         (λ e₀. decided P (eqb (state_of word) POISONED && not i) _ _
-        (λ _. kept-panicked _ word word once_poisoned 0 W.None (stores_same _ word))
+        (λ _. kept-panicked _ word word 2 0 W.None (stores_same _ word))
         (λ e₁. decided P (eqb (state_of word) POISONED || eqb (state_of word) INCOMPLETE) _ _
         (λ e₂. moves (O.Call i p) (O.Call i (C.ExchangeRunning word)) word calling (λ _ _ l. running-passes i word (l k) e₁ e₂) (stores_same _ word))
         (λ e₂. decided P (is_queued word) _ _
@@ -69,7 +68,7 @@ module _ (o word : ℕ) where
     unfolding plan_of On.finishes
     finishes-kept p panicking new wake s =
         either (λ (q : Step OnceAt). Kept (A.Once o p) word (once_plan o p q)) panicking _ _
-        (kept-panicked _ word new closure_panicked 0 wake s)
+        (kept-panicked _ word new 3 0 wake s)
         (kept-end _ word new 1 0 wake s)
 
     call_kept : (p : CallAt) (f : Bool) → Kept (A.Once o (O.Call i p)) word (once_plan o (O.Call i p) (On.call_of i p f word))
@@ -116,7 +115,7 @@ module _ (o word : ℕ) where
         decided P (eqb (state_of word) COMPLETE) _ _
         (λ _. kept-end _ word word 1 0 W.None (stores_same _ word))
         (λ e₀. decided P (eqb (state_of word) POISONED && not i) _ _
-        (λ _. kept-panicked _ word word once_poisoned 0 W.None (stores_same _ word))
+        (λ _. kept-panicked _ word word 2 0 W.None (stores_same _ word))
         (λ e₁. decided P (is_queued word) _ _
         (λ e₂. moves (O.Wait i p) (O.Wait i (Wt.Wait word)) word awaiting (λ _ _ l. wait-queued-passes i word (l refl) e₀ e₁ e₂) (stores_same _ word))
         (λ e₂. moves (O.Wait i p) (O.Wait i (Wt.ExchangeQueued word)) word awaiting (λ _ _ l. wait-queues-passes i word (l refl) e₀ e₁ e₂) (stores_same _ word))))

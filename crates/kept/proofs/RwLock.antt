@@ -9,7 +9,6 @@ use borrow.Author.Tests.{eqb-true}
 use Rattle.words.proofs.Cond.{either}
 use Rattle.words.specs.Atomic.{SPINS, exchanges}
 use Rattle.words.specs.Counter.{incremented}
-use Rattle.words.specs.Panic.{too_many_readers}
 use Rattle.words.specs.RwLock.{MAX_READERS, WRITE_LOCKED, READERS_WAITING, WRITERS_WAITING, DOWNGRADE, READ_LOCKED, count, is_unlocked, is_read_lockable, has_readers_waiting, has_writers_waiting, has_reached_max_readers, read_locked, read_unlocked, write_locked, write_unlocked, downgraded, with_readers_waiting, without_readers_waiting, with_writers_waiting}
 use Rattle.words.specs.declared.Hold.{Hold}
 use Rattle.words.specs.declared.Hold.TheVariants as H
@@ -101,7 +100,7 @@ module _ (l word : ℕ) where
       decided P (Rw.may_read slept word) _ _
       (λ e₁. moves (X.Read p) (X.Read (R.ExchangeContended slept word)) word W.None reading (λ _ _ _. e₁) refl (stores_same _ word))
       (λ e₁. decided P (has_reached_max_readers word) _ _
-      (λ _. kept-panicked _ word word too_many_readers l W.None (stores_same _ word))
+      (λ _. kept-panicked _ word word 1 l W.None (stores_same _ word))
       (λ e₂. decided P (has_readers_waiting word) _ _
       (λ e₃. moves (X.Read p) (X.Read (R.Wait word)) word W.None reading (λ _ _ _. simp (e₃, e₂)) refl (stores_same _ word))
       (λ e₃. moves (X.Read p) (X.Read (R.SetWaiting slept word)) word W.None reading (λ _ _ _. simp (e₁, e₂, e₃)) refl (stores_same _ word))))

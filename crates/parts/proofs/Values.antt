@@ -15,6 +15,7 @@ use Rattle.words.specs.declared.Next.{Next}
 use Rattle.words.specs.declared.Next.TheVariants as Nx
 use Rattle.words.specs.declared.Step.{Step}
 use Rattle.words.specs.Steps as St
+use Rattle.words.specs.Steps.{map_step}
 use Rattle.mutex.specs.declared.LockAt.{LockAt}
 use Rattle.mutex.specs.declared.UnlockAt.{UnlockAt}
 use Rattle.mutex.specs.declared.MutexAt.{MutexAt}
@@ -69,13 +70,13 @@ tells e = record { told = e }
 
 -- mutex: lock and unlock return nothing, which is told as 1
 module _ (m : ℕ) (word : ℕ) where
-  lock-told : (p : MutexAt) (new : ℕ) (hold : Hold) (wake : Wake) (n : Next LockAt) → Told (mutex_plan m p) (Mx.lock_step (record { word = new; next = n; hold = hold; wake = wake }))
+  lock-told : (p : MutexAt) (new : ℕ) (hold : Hold) (wake : Wake) (n : Next LockAt) → Told (mutex_plan m p) (map_step M.Lock (record { word = new; next = n; hold = hold; wake = wake }))
   unfolding value_of plan_of moved slept done
   lock-told p new hold wake (Nx.Moved q) = tells refl
   lock-told p new hold wake Nx.Asleep = tells refl
   lock-told p new hold wake Nx.Ended = tells refl
 
-  unlock-told : (p : MutexAt) (new : ℕ) (hold : Hold) (wake : Wake) (n : Next UnlockAt) → Told (mutex_plan m p) (Mx.unlock_step (record { word = new; next = n; hold = hold; wake = wake }))
+  unlock-told : (p : MutexAt) (new : ℕ) (hold : Hold) (wake : Wake) (n : Next UnlockAt) → Told (mutex_plan m p) (map_step M.Unlock (record { word = new; next = n; hold = hold; wake = wake }))
   unfolding value_of plan_of moved done
   unlock-told p new hold wake (Nx.Moved q) = tells refl
   unlock-told p new hold wake Nx.Ended = tells refl
