@@ -9,6 +9,7 @@ use Rattle.queue.specs.Row.{THREADS, place_of}
 use Rattle.words.specs.declared.Next.{Next}
 use Rattle.words.specs.declared.Next.TheVariants as Nx
 use Rattle.words.specs.declared.Step.{Step}
+use Rattle.words.specs.Steps.{map_step}
 use Rattle.mutex.specs.declared.MutexAt.{MutexAt}
 use Rattle.rwlock.specs.declared.RwLockAt.{RwLockAt}
 use Rattle.condvar.specs.declared.CondvarAt.{CondvarAt}
@@ -53,62 +54,25 @@ tell-refusal : (e : Event) (n : ℕ) → is_refusal (tell_of e n) ≡ is_refusal
 tell-refusal e n = ap of_refusal (tell-kind e n)
 
 -- no plan is a refusal
-mutex-told : (m : ℕ) (p : MutexAt) (s : Step MutexAt) → is_refusal (mutex_plan m p s).event ≡ false
-unfolding plan_of moved slept done
-mutex-told m p s = by s.next
-  where
-    by : (n : Next MutexAt) → is_refusal (plan_next (A.Mutex m p) m s.word s.hold s.wake n).event ≡ false
-    by (Nx.Moved q) = refl
-    by Nx.Asleep = refl
-    by (Nx.Ended v) = refl
-
-rwlock-told : (l : ℕ) (p : RwLockAt) (s : Step RwLockAt) → is_refusal (rwlock_plan l p s).event ≡ false
-unfolding plan_of moved slept done panicked
-rwlock-told l p s = by s.next
-  where
-    by : (n : Next RwLockAt) → is_refusal (plan_next (A.RwLock l p) l s.word s.hold s.wake n).event ≡ false
-    by (Nx.Moved q) = refl
-    by Nx.Asleep = refl
-    by (Nx.Ended v) = refl
-    by (Nx.Panics k) = refl
-
-condvar-told : (c : ℕ) (p : CondvarAt) (o : ℕ) (s : Step CondvarAt) → is_refusal (condvar_plan c p o s).event ≡ false
-unfolding plan_of moved slept done
-condvar-told c p o s = by s.next
-  where
-    by : (n : Next CondvarAt) → is_refusal (plan_next (A.Condvar c p) o s.word s.hold s.wake n).event ≡ false
-    by (Nx.Moved q) = refl
-    by Nx.Asleep = refl
-    by (Nx.Ended v) = refl
-
-once-told : (o : ℕ) (p : OnceAt) (s : Step OnceAt) → is_refusal (once_plan o p s).event ≡ false
+planned-told : (at : At) (object : ℕ) (s : Step At) → is_refusal (plan_of at object s).event ≡ false
 unfolding plan_of moved slept done panicked entered
-once-told o p s = by s.next
+planned-told at object s = by s.next
   where
-    by : (n : Next OnceAt) → is_refusal (plan_next (A.Once o p) 0 s.word s.hold s.wake n).event ≡ false
+    by : (n : Next At) → is_refusal (plan_next at object s.word s.hold s.wake n).event ≡ false
     by (Nx.Moved q) = refl
     by Nx.Asleep = refl
     by (Nx.Ended v) = refl
     by (Nx.Panics k) = refl
     by (Nx.Closure q) = refl
 
-parker-told : (p : ParkerAt) (s : Step ParkerAt) → is_refusal (parker_plan p s).event ≡ false
-unfolding plan_of moved slept done
-parker-told p s = by s.next
-  where
-    by : (n : Next ParkerAt) → is_refusal (plan_next (A.Parker p) 0 s.word s.hold s.wake n).event ≡ false
-    by (Nx.Moved q) = refl
-    by Nx.Asleep = refl
-    by (Nx.Ended v) = refl
-
 plan-told : (at : At) (f : Bool) (word : ℕ) (a : Bool) → is_refusal (decide_of at f word a).event ≡ false
 unfolding decide_of moved
 plan-told A.Idle f word a = refl
-plan-told (A.Mutex m p) f word a = mutex-told m p (Mx.decide_of p f word a)
-plan-told (A.RwLock l p) f word a = rwlock-told l p (Rw.decide_of p f word a)
-plan-told (A.Condvar c p) f word a = condvar-told c p (Cv.object_of c p) (Cv.decide_of p f word a)
-plan-told (A.Once o p) f word a = once-told o p (On.decide_of p f word a)
-plan-told (A.Parker p) f word a = parker-told p (Pk.decide_of PARKED p f word a)
+plan-told (A.Mutex m p) f word a = planned-told (A.Mutex m p) m (map_step (A.Mutex m) (Mx.decide_of p f word a))
+plan-told (A.RwLock l p) f word a = planned-told (A.RwLock l p) l (map_step (A.RwLock l) (Rw.decide_of p f word a))
+plan-told (A.Condvar c p) f word a = planned-told (A.Condvar c p) (Cv.object_of c p) (map_step (A.Condvar c) (Cv.decide_of p f word a))
+plan-told (A.Once o p) f word a = planned-told (A.Once o p) 0 (map_step (A.Once o) (On.decide_of p f word a))
+plan-told (A.Parker p) f word a = planned-told (A.Parker p) 0 (map_step A.Parker (Pk.decide_of PARKED p f word a))
 
 -- an answer that is a refusal has the world as it was
 Keeps : World → Acted → Type 0

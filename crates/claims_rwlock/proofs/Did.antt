@@ -87,12 +87,14 @@ next_code (Nx.Moved q) = code_of q
 next_code Nx.Asleep = outside
 next_code (Nx.Ended value) = outside
 next_code (Nx.Panics number) = outside
+next_code (Nx.Closure q) = code_of q
 
 abbrev pub stays_awake : Next RwLockAt → Bool
 stays_awake (Nx.Moved q) = true
 stays_awake Nx.Asleep = false
 stays_awake (Nx.Ended value) = true
 stays_awake (Nx.Panics number) = true
+stays_awake (Nx.Closure q) = true
 
 abbrev pub BOTH : ℕ
 BOTH = READERS_WAITING + WRITERS_WAITING

@@ -56,12 +56,14 @@ place_after p (Nx.Moved q) s = up (code_of q) s
 place_after p Nx.Asleep s = down (code_of p) s
 place_after p (Nx.Ended value) s = up outside s
 place_after p (Nx.Panics number) s = up outside s
+place_after p (Nx.Closure q) s = up (code_of q) s
 
 pub after-awake : (p : RwLockAt) (x : Next RwLockAt) (s : ℕ) → stays_awake x ≡ true → place_after p x s ≡ up (next_code x) s
 after-awake p (Nx.Moved q) s e = refl
 after-awake p Nx.Asleep s e = no_way e
 after-awake p (Nx.Ended value) s e = refl
 after-awake p (Nx.Panics number) s e = refl
+after-awake p (Nx.Closure q) s e = refl
 
 -- how many notifications a step from a place is
 abbrev pub adds_of : ℕ → ℕ

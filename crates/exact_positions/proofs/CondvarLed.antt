@@ -5,6 +5,7 @@ use Prim.Native.Nat.{ℕ, ◌^◌, ◌≤◌, ◌<◌}
 use native.Mathlib.Omega.{arith}
 use Rattle.words.specs.declared.Next.{Next}
 use Rattle.words.specs.declared.Next.TheVariants as Nx
+use Rattle.words.specs.Steps.{map_next}
 use Rattle.words.specs.Steps as St
 use Rattle.mutex.specs.declared.LockAt.{LockAt}
 use Rattle.mutex.specs.declared.LockAt.TheVariants as L
@@ -49,7 +50,7 @@ module _ (P : At → Type 0) (led : (at : At) → Led P at → P at) (c : ℕ) w
         (p q : LockAt) (word : ℕ) → word ≤ 2 → (Mx.lock_of p word).next ≡ Nx.Moved q →
         P (A.Condvar c (C.Wait m (Wt.Relock p))) → P (A.Condvar c (C.Wait m (Wt.Relock q)))
     unfolding Cv.decide_of Cv.wait_of Cv.relock_step Cv.operand_of Cv.wait_operand largest
-    relock-step p q word h e = step (C.Wait m (Wt.Relock p)) (C.Wait m (Wt.Relock q)) word h (ap (λ (n : Next LockAt). Cv.relock_next m n) e)
+    relock-step p q word h e = step (C.Wait m (Wt.Relock p)) (C.Wait m (Wt.Relock q)) word h (ap (map_next (λ (q : LockAt). C.Wait m (Wt.Relock q))) e)
 
     wait-led : (p : WaitAt) → Cv.wait_passed p ≡ true → wait_carries p < 2 ^ 32 → P (A.Condvar c (C.Wait m p))
     unfolding entry_of Cv.entry_of Cv.wait_passed wait_carries after_wait Cv.after_wait Cv.wait_after_wait Mx.lock_after_wait waits_of Cv.waits_of Cv.wait_waits Mx.lock_waits wake_refusal is_idle Cv.decide_of Cv.wait_of Cv.unlock_step Mx.unlock_of Cv.operand_of Cv.wait_operand largest

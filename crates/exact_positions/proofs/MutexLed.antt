@@ -5,7 +5,7 @@ use Prim.Native.Nat.{ℕ, ◌≤◌}
 use native.Mathlib.Omega.{arith}
 use Rattle.words.specs.declared.Next.{Next}
 use Rattle.words.specs.declared.Next.TheVariants as Nx
-use Rattle.words.specs.Steps.{map_step}
+use Rattle.words.specs.Steps.{map_next}
 use Rattle.mutex.specs.declared.LockAt.{LockAt}
 use Rattle.mutex.specs.declared.LockAt.TheVariants as L
 use Rattle.mutex.specs.declared.UnlockAt.TheVariants as U
@@ -30,7 +30,7 @@ module _ (P : At → Type 0) (led : (at : At) → Led P at → P at) (m : ℕ) w
 
   lock-step : (p q : LockAt) (word : ℕ) → word ≤ 2 → (Mx.lock_of p word).next ≡ Nx.Moved q → P (A.Mutex m (M.Lock p)) → P (A.Mutex m (M.Lock q))
   unfolding Mx.decide_of
-  lock-step p q word h e = step (M.Lock p) (M.Lock q) word h (ap (λ (n : Next LockAt). Mx.lock_next n) e)
+  lock-step p q word h e = step (M.Lock p) (M.Lock q) word h (ap (map_next M.Lock) e)
 
   pub mutex-led : (p : MutexAt) → Mx.passed_of p ≡ true → P (A.Mutex m p)
   unfolding entry_of Mx.entry_of Mx.passed_of after_wait Mx.after_wait Mx.lock_after_wait waits_of Mx.waits_of Mx.lock_waits wake_refusal is_idle Mx.decide_of Mx.unlock_of

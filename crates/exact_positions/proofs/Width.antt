@@ -13,6 +13,7 @@ use Rattle.words.specs.RwLock.{is_unlocked, is_read_lockable, has_readers_waitin
 use Rattle.words.specs.declared.Next.{Next}
 use Rattle.words.specs.declared.Next.TheVariants as Nx
 use Rattle.words.specs.declared.Step.{Step}
+use Rattle.words.specs.Steps.{map_next}
 use Rattle.words.specs.Steps as St
 use Rattle.condvar.specs.declared.CondvarAt.{CondvarAt}
 use Rattle.mutex.specs.declared.LockAt.{LockAt}
@@ -48,7 +49,7 @@ use Rattle.once.specs.Once as On
 use Rattle.thread_parking.specs.declared.ParkerAt.{ParkerAt}
 use Rattle.calls.specs.declared.At.{At}
 use Rattle.calls.specs.declared.At.TheVariants as A
-use Rattle.calls.specs.Plans.{rwlock_plan, condvar_plan, moved, slept, done, panicked, decide_of, plan_next, plan_of}
+use Rattle.calls.specs.Plans.{rwlock_plan, condvar_plan, moved, slept, done, panicked, entered, decide_of, plan_next, plan_of}
 use Rattle.calls.specs.Positions.{after_wait, passed_of}
 use Rattle.step.specs.Acts.{closed_at}
 use Rattle.kept.specs.Laws.{Goes, ended, staying, locking, unlocking, read-unlocking, write-unlocking, waking, downgrading, notifying, calling, awaiting, parking, unparking}
@@ -227,13 +228,15 @@ module _ (c m word : ℕ) where
   unlock-wide sequence U.Wake s = s
 
   relock-wide : (p : LockAt) (s : Step LockAt) → carries (condvar_plan c (C.Wait m (Cw.Relock p)) m (Cv.relock_step m s)).next.at < 2 ^ 32
-  unfolding plan_of moved slept done Cv.relock_step carries condvar_carries wait_carries
+  unfolding plan_of moved slept done panicked entered Cv.relock_step carries condvar_carries wait_carries
   relock-wide p s = by s.next
     where
-      by : (n : Next LockAt) → carries (plan_next (A.Condvar c (C.Wait m (Cw.Relock p))) m s.word s.hold s.wake (Cv.relock_next m n)).next.at < 2 ^ 32
+      by : (n : Next LockAt) → carries (plan_next (A.Condvar c (C.Wait m (Cw.Relock p))) m s.word s.hold s.wake (map_next (A.Condvar c) (map_next (λ (q : LockAt). C.Wait m (Cw.Relock q)) n))).next.at < 2 ^ 32
       by (Nx.Moved q) = light (A.Condvar c (C.Wait m (Cw.Relock q))) refl
       by Nx.Asleep = light (A.Condvar c (C.Wait m (Cw.Relock p))) refl
-      by Nx.Ended = light A.Idle refl
+      by (Nx.Ended value) = light A.Idle refl
+      by (Nx.Panics panic) = light A.Idle refl
+      by (Nx.Closure q) = light (A.Condvar c (C.Wait m (Cw.Relock q))) refl
 
   wait-wide : (p : WaitAt) (fails anyone : Bool) → word < 2 ^ 32 → wait_carries p < 2 ^ 32 → carries (decide_of (A.Condvar c (C.Wait m p)) fails word anyone).next.at < 2 ^ 32
   unfolding decide_of plan_of moved slept Cv.decide_of Cv.wait_of Cv.wait_after_wait Cv.object_of Cv.wait_object carries condvar_carries wait_carries

@@ -12,7 +12,7 @@ use Rattle.words.specs.declared.Wake.{Wake}
 use Rattle.words.specs.declared.Next.{Next}
 use Rattle.words.specs.declared.Next.TheVariants as Nx
 use Rattle.words.specs.declared.Step.{Step}
-use Rattle.words.specs.Steps as St
+use Rattle.words.specs.Steps.{map_next, map_step}
 use Rattle.mutex.specs.declared.MutexAt.{MutexAt}
 use Rattle.mutex.specs.Mutex as Mx
 use Rattle.rwlock.specs.declared.RwLockAt.{RwLockAt}
@@ -31,7 +31,7 @@ use Rattle.thread_parking.specs.ThreadParking as Pk
 use Rattle.calls.specs.declared.At.{At}
 use Rattle.calls.specs.declared.At.TheVariants as A
 use Rattle.calls.specs.declared.Plan.{Plan}
-use Rattle.calls.specs.Plans.{moved, slept, done, panicked, entered, mutex_plan, rwlock_plan, condvar_plan, once_plan, parker_plan, decide_of, plan_next, plan_of}
+use Rattle.calls.specs.Plans.{awake, moved, slept, done, panicked, entered, decide_of, plan_next, plan_of}
 use Rattle.calls.specs.Positions.{in_closure, is_idle}
 use Rattle.acts.specs.Refusals.{step_refusal}
 use Rattle.calls.specs.Events.{goes_on, is_step}
@@ -42,42 +42,33 @@ pub record Leads (p : Plan) : Type 0 where
   pub told : is_step p.event ≡ true
   pub on : goes_on p.event ≡ true → step_refusal p.next 0 ≡ 0
 
-mutex-leads : (m : ℕ) (p : MutexAt) (s : Step MutexAt) → Leads (mutex_plan m p s)
-unfolding plan_of moved slept done step_refusal is_idle in_closure
-mutex-leads m p s = by s.next
-  where
-    by : (n : Next MutexAt) → Leads (plan_next (A.Mutex m p) m s.word s.hold s.wake n)
-    by (Nx.Moved q) = record { told = refl; on = λ e. refl }
-    by Nx.Asleep = record { told = refl; on = λ e. no_way e }
-    by (Nx.Ended v) = record { told = refl; on = λ e. no_way e }
+-- why the thread that a step leads on may not be stepped then; 0 where it may
+refusal_next : Next At → ℕ
+refusal_next (Nx.Moved q) = step_refusal (awake q) 0
+refusal_next Nx.Asleep = 0
+refusal_next (Nx.Ended v) = 0
+refusal_next (Nx.Panics k) = 0
+refusal_next (Nx.Closure q) = 0
 
-rwlock-leads : (l : ℕ) (p : RwLockAt) (s : Step RwLockAt) → Leads (rwlock_plan l p s)
-unfolding plan_of moved slept done panicked step_refusal is_idle in_closure
-rwlock-leads l p s = by s.next
+plan-leads : (at : At) (object : ℕ) (s : Step At) → refusal_next s.next ≡ 0 → Leads (plan_of at object s)
+unfolding refusal_next plan_of moved slept done panicked entered
+plan-leads at object s h = by s.next h
   where
-    by : (n : Next RwLockAt) → Leads (plan_next (A.RwLock l p) l s.word s.hold s.wake n)
-    by (Nx.Moved q) = record { told = refl; on = λ e. refl }
-    by Nx.Asleep = record { told = refl; on = λ e. no_way e }
-    by (Nx.Ended v) = record { told = refl; on = λ e. no_way e }
-    by (Nx.Panics k) = record { told = refl; on = λ e. no_way e }
+    by : (n : Next At) → refusal_next n ≡ 0 → Leads (plan_next at object s.word s.hold s.wake n)
+    by (Nx.Moved q) h = record { told = refl; on = λ e. h }
+    by Nx.Asleep h = record { told = refl; on = λ e. no_way e }
+    by (Nx.Ended v) h = record { told = refl; on = λ e. no_way e }
+    by (Nx.Panics k) h = record { told = refl; on = λ e. no_way e }
+    by (Nx.Closure q) h = record { told = refl; on = λ e. no_way e }
 
-condvar-leads : (c : ℕ) (p : CondvarAt) (o : ℕ) (s : Step CondvarAt) → Leads (condvar_plan c p o s)
-unfolding plan_of moved slept done step_refusal is_idle in_closure
-condvar-leads c p o s = by s.next
-  where
-    by : (n : Next CondvarAt) → Leads (plan_next (A.Condvar c p) o s.word s.hold s.wake n)
-    by (Nx.Moved q) = record { told = refl; on = λ e. refl }
-    by Nx.Asleep = record { told = refl; on = λ e. no_way e }
-    by (Nx.Ended v) = record { told = refl; on = λ e. no_way e }
-
-parker-leads : (p : ParkerAt) (s : Step ParkerAt) → Leads (parker_plan p s)
-unfolding plan_of moved slept done step_refusal is_idle in_closure
-parker-leads p s = by s.next
-  where
-    by : (n : Next ParkerAt) → Leads (plan_next (A.Parker p) 0 s.word s.hold s.wake n)
-    by (Nx.Moved q) = record { told = refl; on = λ e. refl }
-    by Nx.Asleep = record { told = refl; on = λ e. no_way e }
-    by (Nx.Ended v) = record { told = refl; on = λ e. no_way e }
+-- .. of a module all of whose positions have an operation
+ready : {X : Type 0} (f : X → At) → ((x : X) → step_refusal (awake (f x)) 0 ≡ 0) → (n : Next X) → refusal_next (map_next f n) ≡ 0
+unfolding refusal_next
+ready f h (Nx.Moved q) = h q
+ready f h Nx.Asleep = refl
+ready f h (Nx.Ended v) = refl
+ready f h (Nx.Panics k) = refl
+ready f h (Nx.Closure q) = refl
 
 -- a Once's step enters a closure by the event of that name alone
 outside : Next OnceAt → Bool
@@ -132,27 +123,34 @@ once-outside (O.Call i p) f word a = call-outside i word p f
 once-outside (O.Wait i p) f word a = wait-outside i word p f
 once-outside O.IsCompleted f word a = refl
 
-once-leads : (o : ℕ) (p : OnceAt) (s : Step OnceAt) → Outside s → Leads (once_plan o p s)
-unfolding Outside outside plan_of moved slept done panicked entered step_refusal is_idle in_closure
-once-leads o p s h = by s.next h
+once-ready : (o : ℕ) (n : Next OnceAt) → outside n ≡ true → refusal_next (map_next (A.Once o) n) ≡ 0
+unfolding outside refusal_next step_refusal is_idle in_closure
+once-ready o (Nx.Moved q) h = clear (On.in_closure q) h
   where
-    by : (n : Next OnceAt) → outside n ≡ true → Leads (plan_next (A.Once o p) 0 s.word s.hold s.wake n)
-    by (Nx.Moved q) h = record { told = refl; on = λ e. clear (On.in_closure q) h }
-      where
-        clear : (c : Bool) → not c ≡ true → ◌≡◌ {A = ℕ} (cond c 10 0) 0
-        clear true z = no_way z
-        clear false z = refl
-    by Nx.Asleep h = record { told = refl; on = λ e. no_way e }
-    by (Nx.Ended v) h = record { told = refl; on = λ e. no_way e }
-    by (Nx.Panics k) h = record { told = refl; on = λ e. no_way e }
-    by (Nx.Closure q) h = record { told = refl; on = λ e. no_way e }
+    clear : (c : Bool) → not c ≡ true → ◌≡◌ {A = ℕ} (cond c 10 0) 0
+    clear true z = no_way z
+    clear false z = refl
+once-ready o Nx.Asleep h = refl
+once-ready o (Nx.Ended v) h = refl
+once-ready o (Nx.Panics k) h = refl
+once-ready o (Nx.Closure q) h = refl
 
 -- of every thread that is in a call
 pub leads : (at : At) (f : Bool) (word : ℕ) (a : Bool) → is_idle at ≡ false → Leads (decide_of at f word a)
-unfolding decide_of is_idle
+unfolding decide_of is_idle step_refusal in_closure Outside
 leads A.Idle f word a n = no_way (sym n)
-leads (A.Mutex m p) f word a n = mutex-leads m p (Mx.decide_of p f word a)
-leads (A.RwLock l p) f word a n = rwlock-leads l p (Rw.decide_of p f word a)
-leads (A.Condvar c p) f word a n = condvar-leads c p (Cv.object_of c p) (Cv.decide_of p f word a)
-leads (A.Once o p) f word a n = once-leads o p (On.decide_of p f word a) (once-outside p f word a)
-leads (A.Parker p) f word a n = parker-leads p (Pk.decide_of PARKED p f word a)
+leads (A.Mutex m p) f word a n =
+    let s = Mx.decide_of p f word a in
+    plan-leads (A.Mutex m p) m (map_step (A.Mutex m) s) (ready (A.Mutex m) (λ q. refl) s.next)
+leads (A.RwLock l p) f word a n =
+    let s = Rw.decide_of p f word a in
+    plan-leads (A.RwLock l p) l (map_step (A.RwLock l) s) (ready (A.RwLock l) (λ q. refl) s.next)
+leads (A.Condvar c p) f word a n =
+    let s = Cv.decide_of p f word a in
+    plan-leads (A.Condvar c p) (Cv.object_of c p) (map_step (A.Condvar c) s) (ready (A.Condvar c) (λ q. refl) s.next)
+leads (A.Once o p) f word a n =
+    let s = On.decide_of p f word a in
+    plan-leads (A.Once o p) 0 (map_step (A.Once o) s) (once-ready o s.next (once-outside p f word a))
+leads (A.Parker p) f word a n =
+    let s = Pk.decide_of PARKED p f word a in
+    plan-leads (A.Parker p) 0 (map_step A.Parker s) (ready A.Parker (λ q. refl) s.next)

@@ -7,6 +7,8 @@ use lib.Dec.{eqb}
 use Rattle.words.proofs.Cond.{either}
 use Rattle.words.specs.Atomic.{exchanges}
 use Rattle.words.specs.Once.{COMPLETE, POISONED, INCOMPLETE, state_of, is_queued}
+use Rattle.words.specs.declared.Hold.TheVariants as H
+use Rattle.words.specs.declared.Wake.{Wake}
 use Rattle.words.specs.declared.Wake.TheVariants as W
 use Rattle.words.specs.declared.Step.{Step}
 use Rattle.words.specs.Steps.{moves, sleeps, ends, panics, enters}
@@ -94,3 +96,50 @@ unfolding decide_of may_wake is_completed_of
 calm (A.Call i p) f word a e = call-calm i p f word e
 calm (A.Wait i p) f word a e = wait-calm i p f word
 calm A.IsCompleted f word a e = refl
+
+-- no step changes a hold
+abbrev Same : Step OnceAt → Type 0
+Same s = s.hold ≡ H.Same
+
+queues-same : (p q : OnceAt) (seen : ℕ) → Same (queues p q seen)
+unfolding queues
+queues-same p q seen = either Same (is_queued seen) _ _ refl refl
+
+call-top-same : (i : Bool) (seen : ℕ) → Same (call_top i seen)
+unfolding call_top
+call-top-same i seen =
+    either Same (eqb (state_of seen) COMPLETE) _ _ refl
+    (either Same (eqb (state_of seen) POISONED && not i) _ _ refl
+    (either Same (eqb (state_of seen) POISONED || eqb (state_of seen) INCOMPLETE) _ _ refl (queues-same _ _ seen)))
+
+wait-top-same : (i : Bool) (seen : ℕ) → Same (wait_top i seen)
+unfolding wait_top
+wait-top-same i seen =
+    either Same (eqb (state_of seen) COMPLETE) _ _ refl
+    (either Same (eqb (state_of seen) POISONED && not i) _ _ refl (queues-same _ _ seen))
+
+finishes-same : (panicking : Bool) (word : ℕ) (wake : Wake) → Same (finishes panicking word wake)
+unfolding finishes
+finishes-same panicking word wake = either Same panicking _ _ refl refl
+
+call-same : (i : Bool) (at : CallAt) (f : Bool) (word : ℕ) → Same (call_of i at f word)
+unfolding call_of
+call-same i C.Load f word = call-top-same i word
+call-same i (C.ExchangeRunning seen) f word = either Same (exchanges word seen f) _ _ refl (call-top-same i word)
+call-same i C.Closure f word = refl
+call-same i (C.Swap ending) f word = either Same (is_queued word) _ _ refl (finishes-same (is_panicked ending) _ _)
+call-same i (C.WakeAll panicking) f word = finishes-same panicking word _
+call-same i (C.ExchangeQueued seen) f word = either Same (exchanges word (state_of seen) f) _ _ refl (call-top-same i word)
+call-same i (C.Wait seen) f word = either Same (eqb word seen) _ _ refl refl
+
+wait-same : (i : Bool) (at : WaitAt) (f : Bool) (word : ℕ) → Same (wait_of i at f word)
+unfolding wait_of
+wait-same i Wt.Load f word = wait-top-same i word
+wait-same i (Wt.ExchangeQueued seen) f word = either Same (exchanges word (state_of seen) f) _ _ refl (wait-top-same i word)
+wait-same i (Wt.Wait seen) f word = either Same (eqb word seen) _ _ refl refl
+
+pub holds-same : (at : OnceAt) (f : Bool) (word : ℕ) (a : Bool) → (decide_of at f word a).hold ≡ H.Same
+unfolding decide_of is_completed_of
+holds-same (A.Call i p) f word a = call-same i p f word
+holds-same (A.Wait i p) f word a = wait-same i p f word
+holds-same A.IsCompleted f word a = refl

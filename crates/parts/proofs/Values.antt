@@ -51,6 +51,7 @@ use Rattle.thread_parking.specs.declared.UnparkAt.TheVariants as U
 use Rattle.thread_parking.specs.declared.ParkerAt.{ParkerAt}
 use Rattle.thread_parking.specs.declared.ParkerAt.TheVariants as K
 use Rattle.thread_parking.specs.ThreadParking as Pk
+use Rattle.kept.proofs.Mutex.{LockDid, lock-moves, lock-marks, lock-sleeps, lock-takes, lock-did, UnlockDid, unlock-wakes-next, unlock-ends, unlock-wakes, unlock-did}
 use Rattle.calls.specs.declared.At.{At}
 use Rattle.calls.specs.declared.At.TheVariants as A
 use Rattle.calls.specs.declared.Plan.{Plan}
@@ -70,48 +71,50 @@ tells e = record { told = e }
 
 -- mutex: lock and unlock return nothing, which is told as 1
 module _ (m : ℕ) (word : ℕ) where
-  lock-told : (p : MutexAt) (new : ℕ) (hold : Hold) (wake : Wake) (n : Next LockAt) → Told (mutex_plan m p) (map_step M.Lock (record { word = new; next = n; hold = hold; wake = wake }))
+  lock-told : (p : LockAt) (s : Step LockAt) → LockDid p word s → Told (mutex_plan m (M.Lock p)) (map_step M.Lock s)
   unfolding value_of plan_of moved slept done
-  lock-told p new hold wake (Nx.Moved q) = tells refl
-  lock-told p new hold wake Nx.Asleep = tells refl
-  lock-told p new hold wake Nx.Ended = tells refl
+  lock-told p s (lock-moves _ _) = tells refl
+  lock-told p s (lock-marks _) = tells refl
+  lock-told p s (lock-sleeps _ _) = tells refl
+  lock-told p s (lock-takes _ _ _ _) = tells refl
 
-  unlock-told : (p : MutexAt) (new : ℕ) (hold : Hold) (wake : Wake) (n : Next UnlockAt) → Told (mutex_plan m p) (map_step M.Unlock (record { word = new; next = n; hold = hold; wake = wake }))
+  unlock-told : (p : UnlockAt) (s : Step UnlockAt) → UnlockDid word p s → Told (mutex_plan m (M.Unlock p)) (map_step M.Unlock s)
   unfolding value_of plan_of moved done
-  unlock-told p new hold wake (Nx.Moved q) = tells refl
-  unlock-told p new hold wake Nx.Ended = tells refl
+  unlock-told p s (unlock-wakes-next _) = tells refl
+  unlock-told p s (unlock-ends _) = tells refl
+  unlock-told p s unlock-wakes = tells refl
 
   mutex-told : (p : MutexAt) (f a : Bool) → Told (mutex_plan m p) (Mx.decide_of p f word a)
   unfolding value_of plan_of done Mx.decide_of Mx.try_lock_of
-  mutex-told (M.Lock p) f a = lock-told (M.Lock p) _ _ _ (Mx.lock_of p word).next
+  mutex-told (M.Lock p) f a = lock-told p _ (lock-did p word)
   mutex-told M.TryLock f a = either (Told (mutex_plan m M.TryLock)) (MxW.is_unlocked word) _ _ (tells refl) (tells refl)
-  mutex-told (M.Unlock p) f a = unlock-told (M.Unlock p) _ _ _ (Mx.unlock_of p word).next
+  mutex-told (M.Unlock p) f a = unlock-told p _ (unlock-did p word)
 
 -- condvar
 module _ (c object word : ℕ) where
-  relock-told :
-      (p : CondvarAt) (mutex new : ℕ) (hold : Hold) (wake : Wake) (n : Next LockAt) →
-      Told (condvar_plan c p object) (Cv.relock_step mutex (record { word = new; next = n; hold = hold; wake = wake }))
+  relock-told : (at : CondvarAt) (mutex : ℕ) (p : LockAt) (s : Step LockAt) → LockDid p word s → Told (condvar_plan c at object) (Cv.relock_step mutex s)
   unfolding value_of plan_of moved slept done Cv.relock_step
-  relock-told p mutex new hold wake (Nx.Moved q) = tells refl
-  relock-told p mutex new hold wake Nx.Asleep = tells refl
-  relock-told p mutex new hold wake Nx.Ended = tells refl
+  relock-told at mutex p s (lock-moves _ _) = tells refl
+  relock-told at mutex p s (lock-marks _) = tells refl
+  relock-told at mutex p s (lock-sleeps _ _) = tells refl
+  relock-told at mutex p s (lock-takes _ _ _ _) = tells refl
 
   release-told :
-      (p : CondvarAt) (mutex sequence new : ℕ) (hold : Hold) (wake : Wake) (n : Next UnlockAt) →
-      Told (condvar_plan c p object) (Cv.unlock_step mutex sequence (record { word = new; next = n; hold = hold; wake = wake }))
+      (at : CondvarAt) (mutex sequence : ℕ) (p : UnlockAt) (s : Step UnlockAt) → UnlockDid word p s →
+      Told (condvar_plan c at object) (Cv.unlock_step mutex sequence s)
   unfolding value_of plan_of moved Cv.unlock_step
-  release-told p mutex sequence new hold wake (Nx.Moved q) = tells refl
-  release-told p mutex sequence new hold wake Nx.Ended = tells refl
+  release-told at mutex sequence p s (unlock-wakes-next _) = tells refl
+  release-told at mutex sequence p s (unlock-ends _) = tells refl
+  release-told at mutex sequence p s unlock-wakes = tells refl
 
   condvar-told : (p : CondvarAt) (f a : Bool) → Told (condvar_plan c p object) (Cv.decide_of p f word a)
   unfolding value_of plan_of moved slept done Cv.decide_of Cv.wait_of Cv.notify_of Cv.unlock_step Cv.relock_step
   condvar-told (Cd.Wait mutex CW.Load) f a = tells refl
   condvar-told (Cd.Wait mutex (CW.Unlock sequence p)) f a =
-      release-told (Cd.Wait mutex (CW.Unlock sequence p)) mutex sequence _ _ _ (Mx.unlock_of p word).next
+      release-told (Cd.Wait mutex (CW.Unlock sequence p)) mutex sequence p _ (unlock-did p word)
   condvar-told (Cd.Wait mutex (CW.Wait sequence)) f a =
       either (Told (condvar_plan c (Cd.Wait mutex (CW.Wait sequence)) object)) (eqb word sequence) _ _ (tells refl) (tells refl)
-  condvar-told (Cd.Wait mutex (CW.Relock p)) f a = relock-told (Cd.Wait mutex (CW.Relock p)) mutex _ _ _ (Mx.lock_of p word).next
+  condvar-told (Cd.Wait mutex (CW.Relock p)) f a = relock-told (Cd.Wait mutex (CW.Relock p)) mutex p _ (lock-did p word)
   condvar-told (Cd.Notify all Nf.Add) f a = tells refl
   condvar-told (Cd.Notify all Nf.Wake) f a = tells refl
 

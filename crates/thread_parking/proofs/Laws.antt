@@ -3,6 +3,7 @@ use mathlib.Core.Path.{◌≡◌, refl}
 use mathlib.Core.Bool.{Bool, false}
 use Prim.Native.Nat.{ℕ}
 use Rattle.words.proofs.Cond.{either}
+use Rattle.words.specs.declared.Hold.TheVariants as H
 use Rattle.words.specs.declared.Wake.TheVariants as W
 use Rattle.words.specs.Parker.{is_parked, is_notified}
 use Rattle.words.specs.declared.Step.{Step}
@@ -39,3 +40,15 @@ pub calm :
 unfolding decide_of may_wake
 calm parked (A.Park p) f word a e = park-calm parked p word
 calm parked (A.Unpark thread p) f word a e = unpark-calm parked thread p word e
+
+-- no step changes a hold
+abbrev Same : Step ParkerAt → Type 0
+Same s = s.hold ≡ H.Same
+
+pub holds-same : (parked : ℕ) (at : ParkerAt) (f : Bool) (word : ℕ) (a : Bool) → (decide_of parked at f word a).hold ≡ H.Same
+unfolding decide_of park_of unpark_of
+holds-same parked (A.Park P.Subtract) f word a = either Same (is_notified word) _ _ refl refl
+holds-same parked (A.Park P.Wait) f word a = either Same (is_parked parked word) _ _ refl refl
+holds-same parked (A.Park P.Exchange) f word a = either Same (is_notified word) _ _ refl refl
+holds-same parked (A.Unpark thread U.Swap) f word a = either Same (is_parked parked word) _ _ refl refl
+holds-same parked (A.Unpark thread U.Wake) f word a = refl
