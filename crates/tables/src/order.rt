@@ -27,6 +27,18 @@ const LOCK: [LockAt; 10] = [
     LockAt::SpinAgain { left: 0 },
 ];
 
+// The places after the subtraction of either unlock of an RwLock.
+const WAKE: [WakeAt; 8] = [
+    WakeAt::ExchangeWriters,
+    WakeAt::ExchangeBoth,
+    WakeAt::Notify { both: false },
+    WakeAt::Notify { both: true },
+    WakeAt::WakeWriter { both: false },
+    WakeAt::WakeWriter { both: true },
+    WakeAt::ExchangeReaders,
+    WakeAt::WakeReaders,
+];
+
 pub fn mutex_positions(rt: &impl Print) -> io::Result<()> {
     for at in LOCK {
         rows(rt, MutexAt::Lock { at })?;
@@ -48,22 +60,19 @@ pub fn parker_positions(rt: &impl Print) -> io::Result<()> {
     Ok(())
 }
 
-fn in_condvar_wait(rt: &impl Print, at: condvar::WaitAt) -> io::Result<()> {
-    rows(rt, CondvarAt::Wait { mutex: 0, at })
-}
-
 pub fn condvar_positions(rt: &impl Print) -> io::Result<()> {
-    in_condvar_wait(rt, condvar::WaitAt::Load)?;
+    let wait = |at| rows(rt, CondvarAt::Wait { mutex: 0, at });
+    wait(condvar::WaitAt::Load)?;
     for at in [UnlockAt::Swap, UnlockAt::Wake] {
         for sequence in SEQUENCES {
-            in_condvar_wait(rt, condvar::WaitAt::Unlock { sequence, at })?;
+            wait(condvar::WaitAt::Unlock { sequence, at })?;
         }
     }
     for sequence in SEQUENCES {
-        in_condvar_wait(rt, condvar::WaitAt::Wait { sequence })?;
+        wait(condvar::WaitAt::Wait { sequence })?;
     }
     for at in LOCK {
-        in_condvar_wait(rt, condvar::WaitAt::Relock { at })?;
+        wait(condvar::WaitAt::Relock { at })?;
     }
     for all in [false, true] {
         for at in [NotifyAt::Add, NotifyAt::Wake] {
@@ -73,100 +82,35 @@ pub fn condvar_positions(rt: &impl Print) -> io::Result<()> {
     Ok(())
 }
 
-// The closure, and what follows it.
-fn closure_positions(rt: &impl Print, ignores: bool) -> io::Result<()> {
-    closing_rows(
-        rt,
-        OnceAt::Call {
-            ignores,
-            at: CallAt::Closure,
-        },
-    )?;
+// The positions of a call. Where it begins to run the closure is shown at each of these states.
+fn call_positions(rt: &impl Print, ignores: bool, states: &[u32]) -> io::Result<()> {
+    let call = |at| rows(rt, OnceAt::Call { ignores, at });
+    call(CallAt::Load)?;
+    for seen in states {
+        call(CallAt::ExchangeRunning { seen: *seen })?;
+    }
+    let at = CallAt::Closure;
+    closing_rows(rt, OnceAt::Call { ignores, at })?;
     for ending in [Ending::Returned, Ending::Poisoned, Ending::Panicked] {
-        rows(
-            rt,
-            OnceAt::Call {
-                ignores,
-                at: CallAt::Swap { ending },
-            },
-        )?;
+        call(CallAt::Swap { ending })?;
     }
     for panicking in [false, true] {
-        rows(
-            rt,
-            OnceAt::Call {
-                ignores,
-                at: CallAt::WakeAll { panicking },
-            },
-        )?;
+        call(CallAt::WakeAll { panicking })?;
     }
-    Ok(())
+    call(CallAt::ExchangeQueued { seen: 1 })?;
+    call(CallAt::Wait { seen: 5 })
 }
 
-// The positions of a call, of which the first exchange is shown at each of these states.
-fn call_positions(rt: &impl Print, ignores: bool, states: &[u32]) -> io::Result<()> {
-    rows(
-        rt,
-        OnceAt::Call {
-            ignores,
-            at: CallAt::Load,
-        },
-    )?;
-    for seen in states {
-        rows(
-            rt,
-            OnceAt::Call {
-                ignores,
-                at: CallAt::ExchangeRunning { seen: *seen },
-            },
-        )?;
-    }
-    closure_positions(rt, ignores)?;
-    rows(
-        rt,
-        OnceAt::Call {
-            ignores,
-            at: CallAt::ExchangeQueued { seen: 1 },
-        },
-    )?;
-    rows(
-        rt,
-        OnceAt::Call {
-            ignores,
-            at: CallAt::Wait { seen: 5 },
-        },
-    )
-}
-
-// The positions of a wait, of which the exchange is shown at each of these states.
+// The positions of a wait, which queues in each of these states.
 fn once_wait_positions(rt: &impl Print, ignores: bool, states: &[u32]) -> io::Result<()> {
-    rows(
-        rt,
-        OnceAt::Wait {
-            ignores,
-            at: once::WaitAt::Load,
-        },
-    )?;
+    let wait = |at| rows(rt, OnceAt::Wait { ignores, at });
+    wait(once::WaitAt::Load)?;
     for seen in states {
-        rows(
-            rt,
-            OnceAt::Wait {
-                ignores,
-                at: once::WaitAt::ExchangeQueued { seen: *seen },
-            },
-        )?;
+        wait(once::WaitAt::ExchangeQueued { seen: *seen })?;
     }
-    // the same states with waiters queued
     for seen in states {
-        rows(
-            rt,
-            OnceAt::Wait {
-                ignores,
-                at: once::WaitAt::Wait {
-                    seen: OnceWord::with_queued(*seen),
-                },
-            },
-        )?;
+        let seen = OnceWord::with_queued(*seen);
+        wait(once::WaitAt::Wait { seen })?;
     }
     Ok(())
 }
@@ -180,119 +124,88 @@ pub fn once_positions(rt: &impl Print) -> io::Result<()> {
     rows(rt, OnceAt::IsCompleted)
 }
 
-fn in_read(rt: &impl Print, at: ReadAt) -> io::Result<()> {
-    rows(rt, RwLockAt::Read { at })
-}
-
 fn read_positions(rt: &impl Print) -> io::Result<()> {
-    in_read(rt, ReadAt::Load)?;
+    let read = |at| rows(rt, RwLockAt::Read { at });
+    read(ReadAt::Load)?;
     for seen in [0, 1, 0x3FFF_FFFD] {
-        in_read(rt, ReadAt::Exchange { seen })?;
+        read(ReadAt::Exchange { seen })?;
     }
     for slept in [false, true] {
         for left in SPINS {
-            in_read(rt, ReadAt::Spin { slept, left })?;
+            read(ReadAt::Spin { slept, left })?;
         }
     }
-    for slept in [false, true] {
-        for seen in [0, 1] {
-            in_read(rt, ReadAt::ExchangeContended { slept, seen })?;
-        }
+    for seen in [0, 1] {
+        read(ReadAt::ExchangeContended { slept: false, seen })?;
     }
     // Only who has slept joins readers past a waiting writer.
-    in_read(
-        rt,
-        ReadAt::ExchangeContended {
-            slept: true,
-            seen: 0x8000_0001,
-        },
-    )?;
+    for seen in [0, 1, 0x8000_0001] {
+        read(ReadAt::ExchangeContended { slept: true, seen })?;
+    }
     for seen in [0x3FFF_FFFF, 0x8000_0000, 0x8000_0001, 0xBFFF_FFFF] {
-        in_read(rt, ReadAt::SetWaiting { slept: false, seen })?;
+        read(ReadAt::SetWaiting { slept: false, seen })?;
     }
     for seen in [0x3FFF_FFFF, 0x8000_0000, 0xBFFF_FFFF] {
-        in_read(rt, ReadAt::SetWaiting { slept: true, seen })?;
+        read(ReadAt::SetWaiting { slept: true, seen })?;
     }
     for seen in [0x4000_0000, 0x7FFF_FFFF, 0xC000_0001] {
-        in_read(rt, ReadAt::Wait { seen })?;
+        read(ReadAt::Wait { seen })?;
     }
     Ok(())
-}
-
-fn try_read_positions(rt: &impl Print) -> io::Result<()> {
-    rows(rt, RwLockAt::TryRead { at: TryAt::Load })?;
-    for seen in [0, 1, 0x3FFF_FFFD] {
-        rows(
-            rt,
-            RwLockAt::TryRead {
-                at: TryAt::Exchange { seen },
-            },
-        )?;
-    }
-    Ok(())
-}
-
-fn in_write(rt: &impl Print, at: WriteAt) -> io::Result<()> {
-    rows(rt, RwLockAt::Write { at })
 }
 
 fn write_positions(rt: &impl Print) -> io::Result<()> {
-    in_write(rt, WriteAt::Exchange)?;
+    let write = |at| rows(rt, RwLockAt::Write { at });
+    write(WriteAt::Exchange)?;
     for others in [false, true] {
         for left in SPINS {
-            in_write(rt, WriteAt::Spin { others, left })?;
+            write(WriteAt::Spin { others, left })?;
         }
     }
     for others in [false, true] {
         for seen in [0, 0x4000_0000, 0x8000_0000, 0xC000_0000] {
-            in_write(rt, WriteAt::ExchangeContended { others, seen })?;
+            write(WriteAt::ExchangeContended { others, seen })?;
         }
     }
     for others in [false, true] {
         for seen in [1, 0x3FFF_FFFF, 0x4000_0001] {
-            in_write(rt, WriteAt::SetWaiting { others, seen })?;
+            write(WriteAt::SetWaiting { others, seen })?;
         }
     }
-    in_write(rt, WriteAt::LoadSequence)?;
+    write(WriteAt::LoadSequence)?;
     for sequence in SEQUENCES {
-        in_write(rt, WriteAt::LoadState { sequence })?;
+        write(WriteAt::LoadState { sequence })?;
     }
     for sequence in SEQUENCES {
-        in_write(rt, WriteAt::Wait { sequence })?;
+        write(WriteAt::Wait { sequence })?;
     }
     Ok(())
 }
 
-fn try_write_positions(rt: &impl Print) -> io::Result<()> {
-    rows(rt, RwLockAt::TryWrite { at: TryAt::Load })?;
-    for seen in [0, 0x4000_0000, 0xC000_0000] {
-        rows(
-            rt,
-            RwLockAt::TryWrite {
-                at: TryAt::Exchange { seen },
-            },
-        )?;
+// The positions of try_read or of try_write, whose exchange is shown at each of these states.
+fn try_positions<F: Fn(TryAt) -> RwLockAt>(
+    rt: &impl Print,
+    call: F,
+    states: &[u32],
+) -> io::Result<()>
+    requires { F.IsAlwaysCallable call }
+{
+    rows(rt, call(TryAt::Load))?;
+    for seen in states {
+        rows(rt, call(TryAt::Exchange { seen: *seen }))?;
     }
     Ok(())
 }
-
-// What follows the subtraction of either unlock.
-const WAKE: [WakeAt; 8] = [
-    WakeAt::ExchangeWriters,
-    WakeAt::ExchangeBoth,
-    WakeAt::Notify { both: false },
-    WakeAt::Notify { both: true },
-    WakeAt::WakeWriter { both: false },
-    WakeAt::WakeWriter { both: true },
-    WakeAt::ExchangeReaders,
-    WakeAt::WakeReaders,
-];
 
 pub fn rwlock_positions(rt: &impl Print) -> io::Result<()> {
     read_positions(rt)?;
-    try_read_positions(rt)?;
+    try_positions(rt, |at| RwLockAt::TryRead { at }, &[0, 1, 0x3FFF_FFFD])?;
     write_positions(rt)?;
-    try_write_positions(rt)?;
+    try_positions(
+        rt,
+        |at| RwLockAt::TryWrite { at },
+        &[0, 0x4000_0000, 0xC000_0000],
+    )?;
     rows(rt, RwLockAt::ReadUnlock)?;
     // At other states the source's assertion that the lock is unlocked now may fire.
     rows_at(rt, RwLockAt::WriteUnlock, &WRITE_LOCKED)?;
