@@ -36,29 +36,29 @@ impl Named for Kind {
     }
 }
 
-// A hold that changes has a space before its name, and so has a wake.
+// Where a hold stays as it is, and where nobody is woken, there is nothing to name; else a space comes first.
 impl Named for Hold {
     fn name<W: fmt::Write>(&self, f: &mut fmt::Formatter<W>) -> fmt::Result {
-        f.write_str(match self {
-            Hold::Same => "",
-            Hold::TakeMutex => " takes mutex",
-            Hold::FreeMutex => " frees mutex",
-            Hold::TakeRead => " takes read",
-            Hold::FreeRead => " frees read",
-            Hold::TakeWrite => " takes write",
-            Hold::FreeWrite => " frees write",
-            Hold::Downgrade => " turns write",
-        })
+        match self {
+            Hold::Same => Ok(()),
+            Hold::TakeMutex => f.write_str(" takes mutex"),
+            Hold::FreeMutex => f.write_str(" frees mutex"),
+            Hold::TakeRead => f.write_str(" takes read"),
+            Hold::FreeRead => f.write_str(" frees read"),
+            Hold::TakeWrite => f.write_str(" takes write"),
+            Hold::FreeWrite => f.write_str(" frees write"),
+            Hold::Downgrade => f.write_str(" turns write"),
+        }
     }
 }
 
 impl Named for Wake {
     fn name<W: fmt::Write>(&self, f: &mut fmt::Formatter<W>) -> fmt::Result {
-        f.write_str(match self {
-            Wake::None => "",
-            Wake::One => " wakes one",
-            Wake::All => " wakes all",
-        })
+        match self {
+            Wake::None => Ok(()),
+            Wake::One => f.write_str(" wakes one"),
+            Wake::All => f.write_str(" wakes all"),
+        }
     }
 }
 
@@ -111,23 +111,23 @@ impl Named for MutexAt {
 
 impl Named for ParkerAt {
     fn name<W: fmt::Write>(&self, f: &mut fmt::Formatter<W>) -> fmt::Result {
-        f.write_str(match self {
-            ParkerAt::Park {
-                at: ParkAt::Subtract,
-            } => "parker park subtract",
-            ParkerAt::Park { at: ParkAt::Wait } => "parker park wait",
-            ParkerAt::Park {
-                at: ParkAt::Exchange,
-            } => "parker park exchange",
-            ParkerAt::Unpark {
-                at: UnparkAt::Swap,
-                ..
-            } => "parker unpark swap",
-            ParkerAt::Unpark {
-                at: UnparkAt::Wake,
-                ..
-            } => "parker unpark wake",
-        })
+        match self {
+            ParkerAt::Park { at } => {
+                let place = match at {
+                    ParkAt::Subtract => "subtract",
+                    ParkAt::Wait => "wait",
+                    ParkAt::Exchange => "exchange",
+                };
+                write!(f, "parker park {place}")
+            }
+            ParkerAt::Unpark { at, .. } => {
+                let place = match at {
+                    UnparkAt::Swap => "swap",
+                    UnparkAt::Wake => "wake",
+                };
+                write!(f, "parker unpark {place}")
+            }
+        }
     }
 }
 
@@ -168,11 +168,9 @@ impl Named for CallAt {
             CallAt::ExchangeRunning { seen } => write!(f, "exchange-running {seen:08X}"),
             CallAt::Closure => f.write_str("closure"),
             CallAt::Swap { ending } => write!(f, "swap {}", Name(*ending)),
-            CallAt::WakeAll { panicking } => write!(
-                f,
-                "wake-all{}",
-                flag(*panicking, " panicking")
-            ),
+            CallAt::WakeAll { panicking } => {
+                write!(f, "wake-all{}", flag(*panicking, " panicking"))
+            }
             CallAt::ExchangeQueued { seen } => write!(f, "exchange-queued {seen:08X}"),
             CallAt::Wait { seen } => write!(f, "wait {seen:08X}"),
         }
@@ -265,16 +263,6 @@ impl Named for WakeAt {
     }
 }
 
-impl Named for DowngradeAt {
-    fn name<W: fmt::Write>(&self, f: &mut fmt::Formatter<W>) -> fmt::Result {
-        f.write_str(match self {
-            DowngradeAt::Add => "add",
-            DowngradeAt::Subtract => "subtract",
-            DowngradeAt::WakeReaders => "wake-readers",
-        })
-    }
-}
-
 impl Named for RwLockAt {
     fn name<W: fmt::Write>(&self, f: &mut fmt::Formatter<W>) -> fmt::Result {
         match self {
@@ -288,7 +276,14 @@ impl Named for RwLockAt {
                 let call = if *writer { "write" } else { "read" };
                 write!(f, "rwlock {call}_unlock {}", Name(*at))
             }
-            RwLockAt::Downgrade { at } => write!(f, "rwlock downgrade {}", Name(*at)),
+            RwLockAt::Downgrade { at } => {
+                let place = match at {
+                    DowngradeAt::Add => "add",
+                    DowngradeAt::Subtract => "subtract",
+                    DowngradeAt::WakeReaders => "wake-readers",
+                };
+                write!(f, "rwlock downgrade {place}")
+            }
         }
     }
 }
