@@ -6,28 +6,17 @@ use Rattle.words.specs.Parker.{PARKED}
 use Rattle.words.specs.declared.Hold.TheVariants as H
 use Rattle.words.specs.declared.Wake.{Wake}
 use Rattle.words.specs.declared.Wake.TheVariants as W
+use Rattle.words.specs.declared.Next.{Next}
+use Rattle.words.specs.declared.Next.TheVariants as Nx
+use Rattle.words.specs.declared.Step.{Step}
+use Rattle.words.specs.Steps as St
 use Rattle.mutex.specs.declared.MutexAt.{MutexAt}
-use Rattle.mutex.specs.declared.MutexStep.{MutexStep}
-use Rattle.mutex.specs.declared.MutexNext.{MutexNext}
-use Rattle.mutex.specs.declared.MutexNext.TheVariants as MxN
 use Rattle.rwlock.specs.declared.RwLockAt.{RwLockAt}
-use Rattle.rwlock.specs.declared.RwLockStep.{RwLockStep}
-use Rattle.rwlock.specs.declared.RwLockNext.{RwLockNext}
-use Rattle.rwlock.specs.declared.RwLockNext.TheVariants as RwN
 use Rattle.condvar.specs.declared.CondvarAt.{CondvarAt}
-use Rattle.condvar.specs.declared.CondvarStep.{CondvarStep}
-use Rattle.condvar.specs.declared.CondvarNext.{CondvarNext}
-use Rattle.condvar.specs.declared.CondvarNext.TheVariants as CvN
 use Rattle.once.specs.declared.CallAt.TheVariants as C
 use Rattle.once.specs.declared.OnceAt.{OnceAt}
 use Rattle.once.specs.declared.OnceAt.TheVariants as O
-use Rattle.once.specs.declared.OnceNext.{OnceNext}
-use Rattle.once.specs.declared.OnceNext.TheVariants as OnN
-use Rattle.once.specs.declared.OnceStep.{OnceStep}
 use Rattle.thread_parking.specs.declared.ParkerAt.{ParkerAt}
-use Rattle.thread_parking.specs.declared.ParkerStep.{ParkerStep}
-use Rattle.thread_parking.specs.declared.ParkerNext.{ParkerNext}
-use Rattle.thread_parking.specs.declared.ParkerNext.TheVariants as PkN
 use Rattle.mutex.specs.Mutex as Mx
 use Rattle.rwlock.specs.RwLock as Rw
 use Rattle.condvar.specs.Condvar as Cv
@@ -37,7 +26,7 @@ use Rattle.calls.specs.declared.At.{At}
 use Rattle.calls.specs.declared.At.TheVariants as A
 use Rattle.calls.specs.declared.Plan.{Plan}
 use Rattle.calls.specs.Events.{woken_of, tell_of}
-use Rattle.calls.specs.Plans.{moved, slept, done, panicked, entered, mutex_plan, rwlock_plan, condvar_plan, once_plan, parker_plan, mutex_next, rwlock_next, condvar_next, once_next, parker_next, decide_of}
+use Rattle.calls.specs.Plans.{moved, slept, done, panicked, entered, mutex_plan, rwlock_plan, condvar_plan, once_plan, parker_plan, decide_of, plan_next, plan_of}
 use Rattle.calls.specs.Positions.{may_wake}
 use Rattle.calls.proofs.Laws.{calm}
 use Rattle.kept.proofs.Calls.{sleeping}
@@ -50,59 +39,59 @@ Tells p = (n : ℕ) → (p.wake ≡ W.None → n ≡ 0) → woken_of (tell_of p.
 abbrev Calm : Plan → Type 0
 Calm p = p.next.asleep ≡ true → p.wake ≡ W.None
 
-mutex-tells : (m : ℕ) (p : MutexAt) (s : MutexStep) → Calm (mutex_plan m p s) → Tells (mutex_plan m p s)
-unfolding Tells mutex_plan moved slept done woken_of tell_of
+mutex-tells : (m : ℕ) (p : MutexAt) (s : Step MutexAt) → Calm (mutex_plan m p s) → Tells (mutex_plan m p s)
+unfolding Tells plan_of moved slept done woken_of tell_of
 mutex-tells m p s = by s.next
   where
-    by : (next : MutexNext) → Calm (mutex_next m p s.word s.hold s.wake next) → Tells (mutex_next m p s.word s.hold s.wake next)
-    by (MxN.Moved q) c n h = refl
-    by MxN.Asleep c n h = sym (h (c refl))
-    by (MxN.Ended value) c n h = refl
+    by : (next : Next MutexAt) → Calm (plan_next (A.Mutex m p) m s.word s.hold s.wake next) → Tells (plan_next (A.Mutex m p) m s.word s.hold s.wake next)
+    by (Nx.Moved q) c n h = refl
+    by Nx.Asleep c n h = sym (h (c refl))
+    by (Nx.Ended value) c n h = refl
 
-rwlock-tells : (l : ℕ) (p : RwLockAt) (s : RwLockStep) → Calm (rwlock_plan l p s) → Tells (rwlock_plan l p s)
-unfolding Tells rwlock_plan moved slept done panicked woken_of tell_of
+rwlock-tells : (l : ℕ) (p : RwLockAt) (s : Step RwLockAt) → Calm (rwlock_plan l p s) → Tells (rwlock_plan l p s)
+unfolding Tells plan_of moved slept done panicked woken_of tell_of
 rwlock-tells l p s = by s.next
   where
-    by : (next : RwLockNext) → Calm (rwlock_next l p s.word s.hold s.wake next) → Tells (rwlock_next l p s.word s.hold s.wake next)
-    by (RwN.Moved q) c n h = refl
-    by RwN.Asleep c n h = sym (h (c refl))
-    by (RwN.Ended value) c n h = refl
-    by (RwN.Panic number) c n h = refl
+    by : (next : Next RwLockAt) → Calm (plan_next (A.RwLock l p) l s.word s.hold s.wake next) → Tells (plan_next (A.RwLock l p) l s.word s.hold s.wake next)
+    by (Nx.Moved q) c n h = refl
+    by Nx.Asleep c n h = sym (h (c refl))
+    by (Nx.Ended value) c n h = refl
+    by (Nx.Panics number) c n h = refl
 
-condvar-tells : (c : ℕ) (p : CondvarAt) (o : ℕ) (s : CondvarStep) → Calm (condvar_plan c p o s) → Tells (condvar_plan c p o s)
-unfolding Tells condvar_plan moved slept done woken_of tell_of
+condvar-tells : (c : ℕ) (p : CondvarAt) (o : ℕ) (s : Step CondvarAt) → Calm (condvar_plan c p o s) → Tells (condvar_plan c p o s)
+unfolding Tells plan_of moved slept done woken_of tell_of
 condvar-tells c p o s = by s.next
   where
     by :
-        (next : CondvarNext) → Calm (condvar_next c p o s.word s.hold s.wake next) →
-        Tells (condvar_next c p o s.word s.hold s.wake next)
-    by (CvN.Moved q) c n h = refl
-    by CvN.Asleep c n h = sym (h (c refl))
-    by (CvN.Ended value) c n h = refl
+        (next : Next CondvarAt) → Calm (plan_next (A.Condvar c p) o s.word s.hold s.wake next) →
+        Tells (plan_next (A.Condvar c p) o s.word s.hold s.wake next)
+    by (Nx.Moved q) c n h = refl
+    by Nx.Asleep c n h = sym (h (c refl))
+    by (Nx.Ended value) c n h = refl
 
-parker-tells : (p : ParkerAt) (s : ParkerStep) → Calm (parker_plan p s) → Tells (parker_plan p s)
-unfolding Tells parker_plan moved slept done woken_of tell_of
+parker-tells : (p : ParkerAt) (s : Step ParkerAt) → Calm (parker_plan p s) → Tells (parker_plan p s)
+unfolding Tells plan_of moved slept done woken_of tell_of
 parker-tells p s = by s.next
   where
-    by : (next : ParkerNext) → Calm (parker_next p s.word s.wake next) → Tells (parker_next p s.word s.wake next)
-    by (PkN.Moved q) c n h = refl
-    by PkN.Asleep c n h = sym (h (c refl))
-    by (PkN.Ended value) c n h = refl
+    by : (next : Next ParkerAt) → Calm (plan_next (A.Parker p) 0 s.word s.hold s.wake next) → Tells (plan_next (A.Parker p) 0 s.word s.hold s.wake next)
+    by (Nx.Moved q) c n h = refl
+    by Nx.Asleep c n h = sym (h (c refl))
+    by (Nx.Ended value) c n h = refl
 
 -- a Once's step that wakes nobody, and the one that wakes, which ends the call
-once-calm : (o : ℕ) (p : OnceAt) (s : OnceStep) → (once_plan o p s).wake ≡ W.None → Tells (once_plan o p s)
-unfolding Tells once_plan moved slept done panicked entered woken_of tell_of
+once-calm : (o : ℕ) (p : OnceAt) (s : Step OnceAt) → (once_plan o p s).wake ≡ W.None → Tells (once_plan o p s)
+unfolding Tells plan_of moved slept done panicked entered woken_of tell_of
 once-calm o p s = by s.next
   where
-    by : (next : OnceNext) → (once_next o p s.word s.wake next).wake ≡ W.None → Tells (once_next o p s.word s.wake next)
-    by (OnN.Moved q) e n h = refl
-    by OnN.Asleep e n h = sym (h e)
-    by (OnN.Ended value) e n h = refl
-    by (OnN.Panic number) e n h = refl
-    by (OnN.Closure q) e n h = sym (h e)
+    by : (next : Next OnceAt) → (plan_next (A.Once o p) 0 s.word s.hold s.wake next).wake ≡ W.None → Tells (plan_next (A.Once o p) 0 s.word s.hold s.wake next)
+    by (Nx.Moved q) e n h = refl
+    by Nx.Asleep e n h = sym (h e)
+    by (Nx.Ended value) e n h = refl
+    by (Nx.Panics number) e n h = refl
+    by (Nx.Closure q) e n h = sym (h e)
 
 finish-tells : (o : ℕ) (p : OnceAt) (panicking : Bool) (word : ℕ) (wake : Wake) → Tells (once_plan o p (On.finishes panicking word wake))
-unfolding Tells once_plan On.finishes On.panics On.ends done panicked woken_of tell_of
+unfolding Tells plan_of On.finishes done panicked woken_of tell_of
 finish-tells o p true word wake n h = refl
 finish-tells o p false word wake n h = refl
 
