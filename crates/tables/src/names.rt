@@ -5,7 +5,7 @@ use once::{CallAt, Ending, OnceAt};
 use rwlock::{DowngradeAt, ReadAt, RwLockAt, TryAt, WakeAt, WriteAt};
 use std::fmt;
 use thread_parking::{ParkAt, ParkerAt, UnparkAt};
-use words::{Hold, Kind, Wake};
+use words::{Hold, Kind, Next, Wake};
 
 // What a row names: a position, by its call and its place in that, or a part of a step.
 pub trait Named {
@@ -284,6 +284,22 @@ impl Named for RwLockAt {
                 };
                 write!(f, "rwlock downgrade {place}")
             }
+        }
+    }
+}
+
+// How a step ends.
+impl<A: Named> Named for Next<A> {
+    fn name<W: fmt::Write>(&self, f: &mut fmt::Formatter<W>) -> fmt::Result {
+        match self {
+            Next::Moved(at) => {
+                f.write_str("moved ")?;
+                at.name(f)
+            }
+            Next::Asleep => f.write_str("slept"),
+            Next::Ended(value) => write!(f, "done {value}"),
+            Next::Panics(panic) => write!(f, "panic {}", panic.number()),
+            Next::Closure(_) => f.write_str("closure"),
         }
     }
 }
