@@ -1,94 +1,93 @@
-// Worlds made by hand: each function changes one thing and asks for nothing else to agree with it. Numbers that
+// Worlds made by hand: each method changes one thing and asks for nothing else to agree with it. Numbers that
 // are past the end change nothing.
-use calls::{At, RWLOCKS, Thread, WORDS};
+use calls::{At, Thread};
 use queue::{Row, THREADS};
 use words::Kind;
-use world::{LOCK_HOLDS, MUTEX_HOLDS, World};
+use world::World;
 
 // A fresh world with or without the note that an act other than set was accepted.
-pub fn noted(started: bool) -> World {
-    let mut w = world::fresh();
-    w.started = started;
-    w
-}
-
-pub fn word(w: World, kind: Kind, object: u8, value: u32) -> World {
-    let mut v = w;
-    let k = calls::word_number(kind, object);
-    if k < WORDS {
-        v.words[k] = value;
+pub fn fresh(started: bool) -> World {
+    World {
+        started,
+        ..world::fresh()
     }
-    v
 }
 
-// Thread t's record; the row is left alone.
-pub fn stands(w: World, t: u8, at: At, asleep: bool) -> World {
-    let th = Thread {
-        at: at,
-        asleep: asleep,
-    };
-    let mut v = w;
-    let i = t as usize;
-    if i < THREADS {
-        v.threads[i] = th;
+fn put<T: Copy>(row: &mut [T], i: usize, value: T) {
+    if let Some(place) = row.get_mut(i) {
+        *place = value;
     }
-    v
 }
 
-pub fn row(w: World, places: [u8; THREADS], count: usize) -> World {
-    let sleepers = Row {
-        places: places,
-        count: count,
-    };
-    let mut v = w;
-    v.sleepers = sleepers;
-    v
-}
-
-// Thread 0 sleeps there, alone in the row.
-pub fn sleeps(w: World, at: At) -> World {
-    row(stands(w, 0, at, true), [0; THREADS], 1)
-}
-
+// The place of a thread's hold on a mutex or an RwLock.
 fn slot(t: u8, object: u8) -> usize {
     t as usize * 4 + object as usize
 }
 
-// The hold of a thread on a mutex.
-pub fn locked(w: World, t: u8, mutex: u8) -> World {
-    let mut v = w;
-    let i = slot(t, mutex);
-    if i < MUTEX_HOLDS {
-        v.locked[i] = true;
-    }
-    v
+pub trait Forge {
+    fn word(self, kind: Kind, object: u8, value: u32) -> Self;
+
+    // Thread t stands there, awake.
+    fn stands(self, t: u8, at: At) -> Self;
+
+    // Thread 0 sleeps there, alone in the row.
+    fn sleeps(self, at: At) -> Self;
+
+    fn row(self, places: [u8; THREADS], count: usize) -> Self;
+
+    // The hold of a thread on a mutex.
+    fn locked(self, t: u8, mutex: u8) -> Self;
+
+    // The write hold of a thread on an RwLock.
+    fn written(self, t: u8, lock: u8) -> Self;
+
+    // The read holds of a thread on an RwLock.
+    fn read(self, t: u8, lock: u8, count: u32) -> Self;
+
+    fn forgotten(self, lock: u8, count: u32) -> Self;
 }
 
-// The write hold of a thread on an RwLock.
-pub fn written(w: World, t: u8, lock: u8) -> World {
-    let mut v = w;
-    let i = slot(t, lock);
-    if i < LOCK_HOLDS {
-        v.written[i] = true;
+impl Forge for World {
+    fn word(mut self, kind: Kind, object: u8, value: u32) -> World {
+        put(&mut self.words, calls::word_number(kind, object), value);
+        self
     }
-    v
-}
 
-// The read holds of a thread on an RwLock.
-pub fn read(w: World, t: u8, lock: u8, count: u32) -> World {
-    let mut v = w;
-    let i = slot(t, lock);
-    if i < LOCK_HOLDS {
-        v.reads[i] = count;
+    fn stands(mut self, t: u8, at: At) -> World {
+        let asleep = false;
+        put(&mut self.threads, t as usize, Thread { at, asleep });
+        self
     }
-    v
-}
 
-pub fn forgotten(w: World, lock: u8, count: u32) -> World {
-    let mut v = w;
-    let i = lock as usize;
-    if i < RWLOCKS {
-        v.forgotten[i] = count;
+    fn sleeps(mut self, at: At) -> World {
+        self.threads[0] = Thread { at, asleep: true };
+        self.row([0; THREADS], 1)
     }
-    v
+
+    fn row(self, places: [u8; THREADS], count: usize) -> World {
+        World {
+            sleepers: Row { places, count },
+            ..self
+        }
+    }
+
+    fn locked(mut self, t: u8, mutex: u8) -> World {
+        put(&mut self.locked, slot(t, mutex), true);
+        self
+    }
+
+    fn written(mut self, t: u8, lock: u8) -> World {
+        put(&mut self.written, slot(t, lock), true);
+        self
+    }
+
+    fn read(mut self, t: u8, lock: u8, count: u32) -> World {
+        put(&mut self.reads, slot(t, lock), count);
+        self
+    }
+
+    fn forgotten(mut self, lock: u8, count: u32) -> World {
+        put(&mut self.forgotten, lock as usize, count);
+        self
+    }
 }
