@@ -126,7 +126,8 @@ fn main(rt: HostRuntime) -> io::Result<()> {
         println!(rt; "room for {room} bytes")?;
         page.tell(Run { room, ..example() })?;
     }
-    for from in [20, 40, 41] {
+    let end = EXAMPLE.len();
+    for from in [end / 2, end, end + 1] {
         println!(rt; "start at {from}")?;
         page.tell(Run { from, ..example() })?;
     }

@@ -19,10 +19,16 @@ fn put<T: Copy>(row: &mut [T], i: usize, value: T) {
     }
 }
 
-// The place of a thread's hold on a mutex or an RwLock.
-fn slot(t: u8, object: u8) -> usize {
-    t as usize * 4 + object as usize
+// A hold on a mutex, so many read holds on an RwLock, or a write hold on one.
+#[derive(Clone, Copy)]
+pub enum Hold {
+    Mutex,
+    Reads(u32),
+    Write,
 }
+
+// So many mutexes and so many RwLocks have holds, thread by thread.
+const OBJECTS: usize = 4;
 
 pub trait Forge {
     fn word(self, kind: Kind, object: u8, value: u32) -> Self;
@@ -35,15 +41,10 @@ pub trait Forge {
 
     fn row(self, places: [u8; THREADS], count: usize) -> Self;
 
-    // The hold of a thread on a mutex.
-    fn locked(self, t: u8, mutex: u8) -> Self;
+    // Thread t has this hold of the mutex or RwLock of that number.
+    fn holds(self, t: u8, object: u8, hold: Hold) -> Self;
 
-    // The write hold of a thread on an RwLock.
-    fn written(self, t: u8, lock: u8) -> Self;
-
-    // The read holds of a thread on an RwLock.
-    fn read(self, t: u8, lock: u8, count: u32) -> Self;
-
+    // So many reads of an RwLock that nobody will free.
     fn forgotten(self, lock: u8, count: u32) -> Self;
 }
 
@@ -71,18 +72,13 @@ impl Forge for World {
         }
     }
 
-    fn locked(mut self, t: u8, mutex: u8) -> World {
-        put(&mut self.locked, slot(t, mutex), true);
-        self
-    }
-
-    fn written(mut self, t: u8, lock: u8) -> World {
-        put(&mut self.written, slot(t, lock), true);
-        self
-    }
-
-    fn read(mut self, t: u8, lock: u8, count: u32) -> World {
-        put(&mut self.reads, slot(t, lock), count);
+    fn holds(mut self, t: u8, object: u8, hold: Hold) -> World {
+        let i = t as usize * OBJECTS + object as usize;
+        match hold {
+            Hold::Mutex => put(&mut self.locked, i, true),
+            Hold::Reads(count) => put(&mut self.reads, i, count),
+            Hold::Write => put(&mut self.written, i, true),
+        }
         self
     }
 

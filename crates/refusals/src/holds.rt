@@ -1,6 +1,6 @@
 // What is held in a world.
 use crate::calling::Call;
-use crate::forge::{self, Forge};
+use crate::forge::{self, Forge, Hold};
 use crate::records::{Record, Setting};
 use crate::worlds;
 use std::fmt;
@@ -24,11 +24,15 @@ impl Holding {
         let w = forge::fresh(true);
         match self {
             Holding::Nothing => w,
-            Holding::Mutex(mutex) => w.word(Kind::Mutex, mutex, 1).locked(0, mutex),
-            Holding::MutexByAnother(mutex) => w.word(Kind::Mutex, mutex, 1).locked(1, mutex),
-            Holding::Read => w.word(Kind::RwLock, 0, 1).read(0, 0, 1),
+            Holding::Mutex(mutex) => w.word(Kind::Mutex, mutex, 1).holds(0, mutex, Hold::Mutex),
+            Holding::MutexByAnother(mutex) => w
+                .word(Kind::Mutex, mutex, 1)
+                .holds(1, mutex, Hold::Mutex),
+            Holding::Read => w.word(Kind::RwLock, 0, 1).holds(0, 0, Hold::Reads(1)),
             Holding::ForgottenRead => w.word(Kind::RwLock, 0, 1).forgotten(0, 1),
-            Holding::Write => w.word(Kind::RwLock, 0, 0x3FFF_FFFF).written(0, 0),
+            Holding::Write => w
+                .word(Kind::RwLock, 0, 0x3FFF_FFFF)
+                .holds(0, 0, Hold::Write),
         }
     }
 

@@ -66,7 +66,7 @@ const ASLEEP: [Inside; 16] = [
 // How many threads sleep in park, from 0 on; the first, second and last place of the row, with each thread between in
 // the place of its number; and the row's count.
 #[derive(Clone, Copy)]
-struct Sleepers(u32, [u8; 3], u32);
+struct Sleepers(u8, [u8; 3], u32);
 
 impl Sleepers {
     fn world(self) -> World {
@@ -77,11 +77,9 @@ impl Sleepers {
             at: Place::ParkWaitsOn.with(0),
             asleep: true,
         };
-        for t in 0..32u8 {
-            if (t as u32) < asleep {
-                w.threads[t as usize] = parked;
-                places[t as usize] = t;
-            }
+        for t in 0..asleep.min(32) {
+            w.threads[t as usize] = parked;
+            places[t as usize] = t;
         }
         places[0] = first;
         places[1] = second;

@@ -1,8 +1,8 @@
 // Clause 8 of soundness: while no act other than set was accepted, set acts make the world from a fresh one.
 use crate::lines;
 use crate::records::{Record, Setting};
-use crate::refused::Told;
-use crate::words_held::{RwLockCase, Word};
+use crate::refused::Fed;
+use crate::words_held::{LockWord, Word};
 use crate::worlds::Scene;
 use std::io;
 use words::Kind;
@@ -22,20 +22,20 @@ const WORDS: [Word; 12] = [
     Word(Kind::Parker, 31, 0xFFFF_FFFF, 0),
 ];
 
-const LOCKS: [RwLockCase; 8] = [
-    RwLockCase(0, 0, 0, [0, 0], 0),
-    RwLockCase(0, 5, 5, [0, 0], 0),
-    RwLockCase(0, 0x3FFF_FFFE, 0x3FFF_FFFE, [0, 0], 0),
-    RwLockCase(0, 0x8000_0000, 0, [0, 0], 0),
-    RwLockCase(0, 0x4000_0005, 5, [0, 0], 0),
-    RwLockCase(0, 1, 0, [1, 0], 0),
-    RwLockCase(3, 1, 0, [0, 1], 0),
-    RwLockCase(0, 0x3FFF_FFFF, 0, [0, 0], 1),
+const LOCKS: [LockWord; 8] = [
+    LockWord(0, 0, 0, [0, 0], 0),
+    LockWord(0, 5, 5, [0, 0], 0),
+    LockWord(0, 0x3FFF_FFFE, 0x3FFF_FFFE, [0, 0], 0),
+    LockWord(0, 0x8000_0000, 0, [0, 0], 0),
+    LockWord(0, 0x4000_0005, 5, [0, 0], 0),
+    LockWord(0, 1, 0, [1, 0], 0),
+    LockWord(3, 1, 0, [0, 1], 0),
+    LockWord(0, 0x3FFF_FFFF, 0, [0, 0], 1),
 ];
 
-const THREADS: [Told; 2] = [
-    Told(Scene::InLockUnnoted, Record(0, 1, 0, 0, 7)),
-    Told(Scene::AsleepUnnoted, Record(0, 1, 0, 0, 7)),
+const THREADS: [Fed; 2] = [
+    Fed(Scene::InLockUnnoted, Record(0, 1, 0, 0, 7)),
+    Fed(Scene::AsleepUnnoted, Record(0, 1, 0, 0, 7)),
 ];
 
 // A set of the last writer_notify word.

@@ -1,6 +1,6 @@
 // Clauses 4 to 6 of soundness: the words, by themselves and with the holds.
 use crate::calling::Call;
-use crate::forge::{self, Forge};
+use crate::forge::{self, Forge, Hold};
 use crate::lines;
 use crate::records::Record;
 use crate::shown::{Number, kind_name};
@@ -36,53 +36,53 @@ const WORDS: [Word; 22] = [
 ];
 
 // The low 30 bits of an RwLock's word are the reads held and forgotten, at most 0x3FFFFFFE. The flags are free.
-const READS: [RwLockCase; 18] = [
-    RwLockCase(0, 0, 0, [0, 0], 0),
-    RwLockCase(0, 1, 0, [0, 0], 0),
-    RwLockCase(0, 0, 0, [1, 0], 0),
-    RwLockCase(0, 1, 0, [1, 0], 0),
-    RwLockCase(0, 2, 0, [1, 0], 0),
-    RwLockCase(0, 2, 0, [2, 0], 0),
-    RwLockCase(0, 2, 0, [1, 1], 0),
-    RwLockCase(0, 1, 1, [0, 0], 0),
-    RwLockCase(0, 2, 1, [0, 0], 0),
-    RwLockCase(0, 3, 1, [1, 1], 0),
-    RwLockCase(0, 2, 1, [1, 1], 0),
-    RwLockCase(0, 0xC000_0000, 0, [0, 0], 0),
-    RwLockCase(0, 0xC000_0001, 0, [1, 0], 0),
-    RwLockCase(0, 0xC000_0000, 0, [1, 0], 0),
-    RwLockCase(0, 0x3FFF_FFFE, 0x3FFF_FFFE, [0, 0], 0),
-    RwLockCase(0, 0x3FFF_FFFF, 0x3FFF_FFFF, [0, 0], 0),
-    RwLockCase(0, 0x3FFF_FFFE, 0, [0x3FFF_FFFD, 1], 0),
-    RwLockCase(0, 0x3FFF_FFFF, 0, [0x3FFF_FFFE, 1], 0),
+const READS: [LockWord; 18] = [
+    LockWord(0, 0, 0, [0, 0], 0),
+    LockWord(0, 1, 0, [0, 0], 0),
+    LockWord(0, 0, 0, [1, 0], 0),
+    LockWord(0, 1, 0, [1, 0], 0),
+    LockWord(0, 2, 0, [1, 0], 0),
+    LockWord(0, 2, 0, [2, 0], 0),
+    LockWord(0, 2, 0, [1, 1], 0),
+    LockWord(0, 1, 1, [0, 0], 0),
+    LockWord(0, 2, 1, [0, 0], 0),
+    LockWord(0, 3, 1, [1, 1], 0),
+    LockWord(0, 2, 1, [1, 1], 0),
+    LockWord(0, 0xC000_0000, 0, [0, 0], 0),
+    LockWord(0, 0xC000_0001, 0, [1, 0], 0),
+    LockWord(0, 0xC000_0000, 0, [1, 0], 0),
+    LockWord(0, 0x3FFF_FFFE, 0x3FFF_FFFE, [0, 0], 0),
+    LockWord(0, 0x3FFF_FFFF, 0x3FFF_FFFF, [0, 0], 0),
+    LockWord(0, 0x3FFF_FFFE, 0, [0x3FFF_FFFD, 1], 0),
+    LockWord(0, 0x3FFF_FFFF, 0, [0x3FFF_FFFE, 1], 0),
 ];
 
 // Or they are 0x3FFFFFFF, one thread writes, and no read is held or forgotten.
-const WRITERS: [RwLockCase; 10] = [
-    RwLockCase(0, 0x3FFF_FFFF, 0, [0, 0], 1),
-    RwLockCase(0, 0xFFFF_FFFF, 0, [0, 0], 1),
-    RwLockCase(0, 0x3FFF_FFFF, 0, [0, 0], 0),
-    RwLockCase(0, 0x3FFF_FFFF, 0, [0, 0], 2),
-    RwLockCase(0, 0, 0, [0, 0], 1),
-    RwLockCase(0, 0x3FFF_FFFE, 0, [0, 0], 1),
-    RwLockCase(0, 0x3FFF_FFFF, 1, [0, 0], 1),
-    RwLockCase(0, 0x3FFF_FFFF, 0, [1, 0], 1),
-    RwLockCase(0, 0x3FFF_FFFF, 0, [0, 1], 1),
-    RwLockCase(0, 1, 0, [0, 1], 1),
+const WRITERS: [LockWord; 10] = [
+    LockWord(0, 0x3FFF_FFFF, 0, [0, 0], 1),
+    LockWord(0, 0xFFFF_FFFF, 0, [0, 0], 1),
+    LockWord(0, 0x3FFF_FFFF, 0, [0, 0], 0),
+    LockWord(0, 0x3FFF_FFFF, 0, [0, 0], 2),
+    LockWord(0, 0, 0, [0, 0], 1),
+    LockWord(0, 0x3FFF_FFFE, 0, [0, 0], 1),
+    LockWord(0, 0x3FFF_FFFF, 1, [0, 0], 1),
+    LockWord(0, 0x3FFF_FFFF, 0, [1, 0], 1),
+    LockWord(0, 0x3FFF_FFFF, 0, [0, 1], 1),
+    LockWord(0, 1, 0, [0, 1], 1),
 ];
 
 // A sum that would fit if it wrapped, at 2^32 or at the low 30 bits; and the last lock.
-const SUMS: [RwLockCase; 10] = [
-    RwLockCase(0, 0, 0, [0x8000_0000, 0x8000_0000], 0),
-    RwLockCase(0, 1, 1, [0x8000_0000, 0x8000_0000], 0),
-    RwLockCase(0, 0x3FFF_FFFF, 0, [0x8000_0000, 0x8000_0000], 1),
-    RwLockCase(0, 0, 0xFFFF_FFFF, [1, 0], 0),
-    RwLockCase(0, 0, 0, [0x4000_0000, 0], 0),
-    RwLockCase(0, 1, 0, [0x4000_0000, 1], 0),
-    RwLockCase(0, 0x3FFF_FFFD, 0xFFFF_FFFF, [0xFFFF_FFFF, 0xFFFF_FFFF], 0),
-    RwLockCase(3, 1, 0, [0, 1], 0),
-    RwLockCase(3, 0, 0, [0, 1], 0),
-    RwLockCase(3, 1, 0, [0, 0], 0),
+const SUMS: [LockWord; 10] = [
+    LockWord(0, 0, 0, [0x8000_0000, 0x8000_0000], 0),
+    LockWord(0, 1, 1, [0x8000_0000, 0x8000_0000], 0),
+    LockWord(0, 0x3FFF_FFFF, 0, [0x8000_0000, 0x8000_0000], 1),
+    LockWord(0, 0, 0xFFFF_FFFF, [1, 0], 0),
+    LockWord(0, 0, 0, [0x4000_0000, 0], 0),
+    LockWord(0, 1, 0, [0x4000_0000, 1], 0),
+    LockWord(0, 0x3FFF_FFFD, 0xFFFF_FFFF, [0xFFFF_FFFF, 0xFFFF_FFFF], 0),
+    LockWord(3, 1, 0, [0, 1], 0),
+    LockWord(3, 0, 0, [0, 1], 0),
+    LockWord(3, 1, 0, [0, 0], 0),
 ];
 
 // A kind of word, the object, the word, and how many threads hold the mutex of that number: the last, then the one
@@ -96,8 +96,10 @@ impl Word {
         let w = forge::fresh(started).word(kind, object, word);
         match holders {
             0 => w,
-            1 => w.locked(31, object),
-            _ => w.locked(31, object).locked(30, object),
+            1 => w.holds(31, object, Hold::Mutex),
+            _ => w
+                .holds(31, object, Hold::Mutex)
+                .holds(30, object, Hold::Mutex),
         }
     }
 }
@@ -117,27 +119,27 @@ impl fmt::Display for Word {
 // An RwLock, its state, its forgotten reads, the reads of the first thread and of the last, and how many write: the
 // first thread, then the second.
 #[derive(Clone, Copy)]
-pub struct RwLockCase(pub u8, pub u32, pub u32, pub [u32; 2], pub u8);
+pub struct LockWord(pub u8, pub u32, pub u32, pub [u32; 2], pub u8);
 
-impl RwLockCase {
+impl LockWord {
     pub fn world(self, started: bool) -> World {
-        let RwLockCase(lock, state, forgotten, [first, last], writers) = self;
+        let LockWord(lock, state, forgotten, [first, last], writers) = self;
         let w = forge::fresh(started)
             .word(Kind::RwLock, lock, state)
             .forgotten(lock, forgotten)
-            .read(0, lock, first)
-            .read(31, lock, last);
+            .holds(0, lock, Hold::Reads(first))
+            .holds(31, lock, Hold::Reads(last));
         match writers {
             0 => w,
-            1 => w.written(0, lock),
-            _ => w.written(0, lock).written(1, lock),
+            1 => w.holds(0, lock, Hold::Write),
+            _ => w.holds(0, lock, Hold::Write).holds(1, lock, Hold::Write),
         }
     }
 }
 
-impl fmt::Display for RwLockCase {
+impl fmt::Display for LockWord {
     fn fmt<W: fmt::Write>(&self, f: &mut fmt::Formatter<W>) -> fmt::Result {
-        let RwLockCase(lock, state, forgotten, [first, last], writers) = *self;
+        let LockWord(lock, state, forgotten, [first, last], writers) = *self;
         write!(
             f,
             "RwLock {lock} is {}, forgotten {}, reads {} {}, writers {writers}",
