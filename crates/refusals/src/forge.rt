@@ -55,8 +55,7 @@ impl Forge for World {
     }
 
     fn stands(mut self, t: u8, at: At) -> World {
-        let asleep = false;
-        put(&mut self.threads, t as usize, Thread { at, asleep });
+        put(&mut self.threads, t as usize, Thread { at, asleep: false });
         self
     }
 

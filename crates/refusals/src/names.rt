@@ -1,32 +1,33 @@
 // Clause 1 of soundness: every index exists. Objects go to 3, threads to 31.
-use crate::calling::{Call, Start};
-use crate::holds::Holding;
+use crate::calling::Call::*;
+use crate::calling::Start;
+use crate::holds::Holding::*;
 use crate::lines;
 use crate::records::Record;
 use std::io;
 
 const CASES: [Start; 21] = [
-    Start(Call::Lock, 3, None, Holding::Nothing),
-    Start(Call::Lock, 4, None, Holding::Nothing),
-    Start(Call::Lock, 255, None, Holding::Nothing),
-    Start(Call::Unlock, 4, None, Holding::Mutex(0)),
-    Start(Call::Read, 3, None, Holding::Nothing),
-    Start(Call::Read, 4, None, Holding::Nothing),
-    Start(Call::Read, 255, None, Holding::Nothing),
-    Start(Call::ReadUnlock, 4, None, Holding::Read),
-    Start(Call::NotifyOne, 3, None, Holding::Nothing),
-    Start(Call::NotifyOne, 4, None, Holding::Nothing),
-    Start(Call::NotifyOne, 255, None, Holding::Nothing),
-    Start(Call::CondvarWait, 3, Some(3), Holding::Mutex(3)),
-    Start(Call::CondvarWait, 4, Some(3), Holding::Mutex(3)),
-    Start(Call::CondvarWait, 3, Some(4), Holding::Mutex(3)),
-    Start(Call::CondvarWait, 3, Some(255), Holding::Mutex(3)),
-    Start(Call::IsCompleted, 3, None, Holding::Nothing),
-    Start(Call::IsCompleted, 4, None, Holding::Nothing),
-    Start(Call::IsCompleted, 255, None, Holding::Nothing),
-    Start(Call::Unpark, 31, None, Holding::Nothing),
-    Start(Call::Unpark, 32, None, Holding::Nothing),
-    Start(Call::Unpark, 255, None, Holding::Nothing),
+    Start(Lock, 3, None, NothingHeld),
+    Start(Lock, 4, None, NothingHeld),
+    Start(Lock, 255, None, NothingHeld),
+    Start(Unlock, 4, None, MutexHeld(0)),
+    Start(Read, 3, None, NothingHeld),
+    Start(Read, 4, None, NothingHeld),
+    Start(Read, 255, None, NothingHeld),
+    Start(ReadUnlock, 4, None, ReadHeld),
+    Start(NotifyOne, 3, None, NothingHeld),
+    Start(NotifyOne, 4, None, NothingHeld),
+    Start(NotifyOne, 255, None, NothingHeld),
+    Start(CondvarWait, 3, Some(3), MutexHeld(3)),
+    Start(CondvarWait, 4, Some(3), MutexHeld(3)),
+    Start(CondvarWait, 3, Some(4), MutexHeld(3)),
+    Start(CondvarWait, 3, Some(255), MutexHeld(3)),
+    Start(IsCompleted, 3, None, NothingHeld),
+    Start(IsCompleted, 4, None, NothingHeld),
+    Start(IsCompleted, 255, None, NothingHeld),
+    Start(Unpark, 31, None, NothingHeld),
+    Start(Unpark, 32, None, NothingHeld),
+    Start(Unpark, 255, None, NothingHeld),
 ];
 
 pub fn lines(rt: &impl Print) -> io::Result<()> {

@@ -1,38 +1,40 @@
 // Clause 7 of soundness: a thread still before the operation that frees or downgrades has that hold.
-use crate::calling::{Call, Start};
-use crate::holds::Holding;
+use crate::calling::Call::*;
+use crate::calling::Start;
+use crate::holds::Holding::*;
 use crate::lines;
-use crate::places::{Inside, Place};
+use crate::places::Inside;
+use crate::places::Place::*;
 use crate::records::Record;
 use std::io;
 
 const STARTS: [Start; 18] = [
-    Start(Call::Unlock, 0, None, Holding::Mutex(0)),
-    Start(Call::Unlock, 0, None, Holding::Nothing),
-    Start(Call::Unlock, 0, None, Holding::MutexByAnother(0)),
-    Start(Call::Unlock, 0, None, Holding::Mutex(1)),
-    Start(Call::ReadUnlock, 0, None, Holding::Read),
-    Start(Call::ReadUnlock, 0, None, Holding::Nothing),
-    Start(Call::ReadUnlock, 0, None, Holding::ForgottenRead),
-    Start(Call::ReadUnlock, 0, None, Holding::Write),
-    Start(Call::WriteUnlock, 0, None, Holding::Write),
-    Start(Call::WriteUnlock, 0, None, Holding::Nothing),
-    Start(Call::WriteUnlock, 0, None, Holding::Read),
-    Start(Call::Downgrade, 0, None, Holding::Write),
-    Start(Call::Downgrade, 0, None, Holding::Nothing),
-    Start(Call::Downgrade, 0, None, Holding::Read),
-    Start(Call::CondvarWait, 0, Some(0), Holding::Mutex(0)),
-    Start(Call::CondvarWait, 0, Some(0), Holding::Nothing),
-    Start(Call::CondvarWait, 0, Some(0), Holding::Mutex(1)),
-    Start(Call::CondvarWait, 0, Some(1), Holding::Mutex(1)),
+    Start(Unlock, 0, None, MutexHeld(0)),
+    Start(Unlock, 0, None, NothingHeld),
+    Start(Unlock, 0, None, MutexHeldByAnother(0)),
+    Start(Unlock, 0, None, MutexHeld(1)),
+    Start(ReadUnlock, 0, None, ReadHeld),
+    Start(ReadUnlock, 0, None, NothingHeld),
+    Start(ReadUnlock, 0, None, ReadForgotten),
+    Start(ReadUnlock, 0, None, WriteHeld),
+    Start(WriteUnlock, 0, None, WriteHeld),
+    Start(WriteUnlock, 0, None, NothingHeld),
+    Start(WriteUnlock, 0, None, ReadHeld),
+    Start(Downgrade, 0, None, WriteHeld),
+    Start(Downgrade, 0, None, NothingHeld),
+    Start(Downgrade, 0, None, ReadHeld),
+    Start(CondvarWait, 0, Some(0), MutexHeld(0)),
+    Start(CondvarWait, 0, Some(0), NothingHeld),
+    Start(CondvarWait, 0, Some(0), MutexHeld(1)),
+    Start(CondvarWait, 0, Some(1), MutexHeld(1)),
 ];
 
 // Further on in the same calls, with nothing held: only a Condvar wait before its swap needs the hold.
 const AFTER: [Inside; 4] = [
-    Inside(Place::UnlockWakes, 1),
-    Inside(Place::CondvarWaitUnlocksFrom, 0),
-    Inside(Place::CondvarWaitWaitsOn, 0),
-    Inside(Place::DowngradeSubtracts, 0),
+    Inside(UnlockWakes, 1),
+    Inside(CondvarWaitUnlocksFrom, 0),
+    Inside(CondvarWaitWaitsOn, 0),
+    Inside(DowngradeSubtracts, 0),
 ];
 
 pub fn lines(rt: &impl Print) -> io::Result<()> {

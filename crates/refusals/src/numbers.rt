@@ -50,7 +50,16 @@ struct Shown<'a, P> {
     world: World,
 }
 
-impl<P: Print> Shown<'_, P> {
+impl<'a, P: Print> Shown<'a, P> {
+    // From a fresh world.
+    fn new(rt: &'a P, kind: Kind) -> Shown<'a, P> {
+        Shown {
+            rt,
+            kind,
+            world: world::fresh(),
+        }
+    }
+
     fn word(&self) -> Number {
         let k = calls::word_number(self.kind, 0);
         Number(self.world.words.get(k).copied().unwrap_or(0))
@@ -71,8 +80,13 @@ impl<P: Print> Shown<'_, P> {
 
     // A call on object 0, from its begin.
     fn call(&mut self, call: Call, thread: u8) -> io::Result<()> {
-        self.world = after(self.world, Record::begin(call, thread, 0));
+        self.unseen(Record::begin(call, thread, 0));
         self.go_on(call, thread)
+    }
+
+    // An act that no line is for.
+    fn unseen(&mut self, record: Record) {
+        self.world = after(self.world, record);
     }
 
     // One act, and the word after it.
@@ -85,33 +99,21 @@ impl<P: Print> Shown<'_, P> {
 
 // The second writer finds 0x80000001, which the first has left.
 fn write(rt: &impl Print) -> io::Result<()> {
-    let world = after(world::fresh(), Record::set(Setting::ForgottenReads, 0, 1));
-    let mut shown = Shown {
-        rt,
-        kind: Kind::RwLock,
-        world,
-    };
+    let mut shown = Shown::new(rt, Kind::RwLock);
+    shown.unseen(Record::set(Setting::ForgottenReads, 0, 1));
     shown.call(Call::Write, 1)?;
     shown.call(Call::Write, 0)
 }
 
 fn unlock(rt: &impl Print) -> io::Result<()> {
-    let mut shown = Shown {
-        rt,
-        kind: Kind::Mutex,
-        world: world::fresh(),
-    };
+    let mut shown = Shown::new(rt, Kind::Mutex);
     shown.call(Call::Lock, 0)?;
     shown.call(Call::Unlock, 0)
 }
 
 // Threads 1 and 2 wait for a closure of thread 0's, which panics.
 fn once(rt: &impl Print) -> io::Result<()> {
-    let mut shown = Shown {
-        rt,
-        kind: Kind::Once,
-        world: world::fresh(),
-    };
+    let mut shown = Shown::new(rt, Kind::Once);
     shown.call(Call::OnceCall, 0)?;
     shown.call(Call::OnceCall, 1)?;
     shown.call(Call::OnceWait, 2)?;
@@ -122,16 +124,12 @@ fn once(rt: &impl Print) -> io::Result<()> {
 }
 
 fn notify_one(rt: &impl Print) -> io::Result<()> {
-    let mut shown = Shown {
-        rt,
-        kind: Kind::Condvar,
-        world: world::fresh(),
-    };
+    let mut shown = Shown::new(rt, Kind::Condvar);
     shown.act(
         "set notify_one's word",
         Record::set(Setting::Condvar, 0, 0xFFFF_FFFF),
     )?;
-    shown.world = after(shown.world, Record::begin(Call::NotifyOne, 0, 0));
+    shown.unseen(Record::begin(Call::NotifyOne, 0, 0));
     shown.act("its fetch_add", Record::step(0))?;
     shown.act("its wake", Record::step(0))
 }

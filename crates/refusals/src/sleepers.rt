@@ -3,7 +3,8 @@
 use crate::calling::Call;
 use crate::forge::{self, Forge};
 use crate::lines;
-use crate::places::{Inside, Place};
+use crate::places::Inside;
+use crate::places::Place::*;
 use crate::records::Record;
 use crate::shown::Number;
 use calls::Thread;
@@ -45,22 +46,22 @@ const ROWS: [Sleepers; 28] = [
 
 // Where the sleeper is right, or wrong.
 const ASLEEP: [Inside; 16] = [
-    Inside(Place::LockWaitsOn, 2),
-    Inside(Place::CondvarWaitWaitsOn, 0),
-    Inside(Place::CondvarWaitLockWaitsOn, 2),
-    Inside(Place::ReadWaitsOn, 0x7FFF_FFFF),
-    Inside(Place::WriteWaitsOn, 0),
-    Inside(Place::OnceCallWaitsOn, 5),
-    Inside(Place::OnceWaitWaitsOn, 5),
-    Inside(Place::ParkWaitsOn, 0xFFFF_FFFF),
-    Inside(Place::Idle, 0),
-    Inside(Place::ParkExchanges, 1),
-    Inside(Place::LockSpins, 100),
-    Inside(Place::UnlockWakes, 1),
-    Inside(Place::ReadLocks, 0),
-    Inside(Place::WriteFlags, 1),
-    Inside(Place::OnceCallRunsFrom, 3),
-    Inside(Place::InClosureOf, 0),
+    Inside(LockWaitsOn, 2),
+    Inside(CondvarWaitWaitsOn, 0),
+    Inside(CondvarWaitLockWaitsOn, 2),
+    Inside(ReadWaitsOn, 0x7FFF_FFFF),
+    Inside(WriteWaitsOn, 0),
+    Inside(OnceCallWaitsOn, 5),
+    Inside(OnceWaitWaitsOn, 5),
+    Inside(ParkWaitsOn, 0xFFFF_FFFF),
+    Inside(Idle, 0),
+    Inside(ParkExchanges, 1),
+    Inside(LockSpins, 100),
+    Inside(UnlockWakes, 1),
+    Inside(ReadLocks, 0),
+    Inside(WriteFlags, 1),
+    Inside(OnceCallRunsFrom, 3),
+    Inside(InClosureOf, 0),
 ];
 
 // How many threads sleep in park, from 0 on; the first, second and last place of the row, with each thread between in
@@ -74,7 +75,7 @@ impl Sleepers {
         let mut w = forge::fresh(true);
         let mut places = [0; THREADS];
         let parked = Thread {
-            at: Place::ParkWaitsOn.with(0),
+            at: ParkWaitsOn.with(0),
             asleep: true,
         };
         for t in 0..asleep.min(32) {

@@ -3,7 +3,7 @@ use crate::lines;
 use crate::records::{Record, Setting};
 use crate::refused::Fed;
 use crate::words_held::{LockWord, Word};
-use crate::worlds::Scene;
+use crate::worlds::Scene::*;
 use std::io;
 use words::Kind;
 
@@ -34,8 +34,8 @@ const LOCKS: [LockWord; 8] = [
 ];
 
 const THREADS: [Fed; 2] = [
-    Fed(Scene::InLockUnnoted, Record(0, 1, 0, 0, 7)),
-    Fed(Scene::AsleepUnnoted, Record(0, 1, 0, 0, 7)),
+    Fed(InLockUnnoted, Record(0, 1, 0, 0, 7)),
+    Fed(AsleepUnnoted, Record(0, 1, 0, 0, 7)),
 ];
 
 // A set of the last writer_notify word.
