@@ -1,37 +1,16 @@
-// The calls, in the order of document 01's numbers, and a thread at the start of one.
+// The calls by their names, and a thread at the start of one.
 use crate::forge::Forge;
 use crate::holds::Holding;
-use calls::At;
+use calls::Call;
 use std::fmt;
 use world::World;
 
-#[derive(Clone, Copy)]
-pub enum Call {
-    Lock,
-    TryLock,
-    Unlock,
-    Read,
-    TryRead,
-    ReadUnlock,
-    Write,
-    TryWrite,
-    WriteUnlock,
-    Downgrade,
-    CondvarWait,
-    NotifyOne,
-    NotifyAll,
-    OnceCall,
-    OnceCallIgnoringPoison,
-    OnceWait,
-    OnceWaitIgnoringPoison,
-    IsCompleted,
-    Park,
-    Unpark,
-}
+// A call by its name.
+pub struct Named(pub Call);
 
-impl fmt::Display for Call {
+impl fmt::Display for Named {
     fn fmt<W: fmt::Write>(&self, f: &mut fmt::Formatter<W>) -> fmt::Result {
-        f.write_str(match self {
+        f.write_str(match self.0 {
             Call::Lock => "lock",
             Call::TryLock => "try_lock",
             Call::Unlock => "unlock",
@@ -46,20 +25,13 @@ impl fmt::Display for Call {
             Call::NotifyOne => "notify_one",
             Call::NotifyAll => "notify_all",
             Call::OnceCall => "Once call",
-            Call::OnceCallIgnoringPoison => "Once call ignoring poison",
+            Call::OnceCallForce => "Once call ignoring poison",
             Call::OnceWait => "Once wait",
-            Call::OnceWaitIgnoringPoison => "Once wait ignoring poison",
+            Call::OnceWaitForce => "Once wait ignoring poison",
             Call::IsCompleted => "is_completed",
             Call::Park => "park",
             Call::Unpark => "unpark",
         })
-    }
-}
-
-impl Call {
-    // Where a thread that begins the call stands; `mutex` is the one that a Condvar wait names.
-    pub fn entry(self, object: u8, mutex: u8) -> At {
-        calls::entry(self as u8, object, mutex)
     }
 }
 
@@ -73,14 +45,14 @@ impl Start {
         let Start(call, object, mutex, holding) = self;
         holding
             .forged()
-            .stands(0, call.entry(object, mutex.unwrap_or(0)))
+            .stands(0, calls::start(call, object, mutex.unwrap_or(0)))
     }
 }
 
 impl fmt::Display for Start {
     fn fmt<W: fmt::Write>(&self, f: &mut fmt::Formatter<W>) -> fmt::Result {
         let Start(call, object, mutex, holding) = *self;
-        write!(f, "{call} on {object}")?;
+        write!(f, "{} on {object}", Named(call))?;
         if let Some(mutex) = mutex {
             write!(f, " with {mutex}")?;
         }

@@ -50,7 +50,9 @@ pub trait Forge {
 
 impl Forge for World {
     fn word(mut self, kind: Kind, object: u8, value: u32) -> World {
-        put(&mut self.words, calls::word_number(kind, object), value);
+        if let Some(k) = calls::word_number(kind, object) {
+            put(&mut self.words, k, value);
+        }
         self
     }
 

@@ -1,8 +1,8 @@
 // What is held in a world.
-use crate::calling::Call;
 use crate::forge::{self, Forge, Hold};
 use crate::records::{Record, Setting};
 use crate::worlds;
+use calls::Call;
 use std::fmt;
 use words::Kind;
 use world::World;

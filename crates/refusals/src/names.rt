@@ -1,9 +1,9 @@
 // Clause 1 of soundness: every index exists. Objects go to 3, threads to 31.
-use crate::calling::Call::*;
 use crate::calling::Start;
 use crate::holds::Holding::*;
 use crate::lines;
 use crate::records::Record;
+use calls::Call::*;
 use std::io;
 
 const CASES: [Start; 21] = [

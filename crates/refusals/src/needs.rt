@@ -1,11 +1,11 @@
 // Clause 7 of soundness: a thread still before the operation that frees or downgrades has that hold.
-use crate::calling::Call::*;
 use crate::calling::Start;
 use crate::holds::Holding::*;
 use crate::lines;
 use crate::places::Inside;
 use crate::places::Place::*;
 use crate::records::Record;
+use calls::Call::*;
 use std::io;
 
 const STARTS: [Start; 18] = [

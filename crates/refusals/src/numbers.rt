@@ -1,10 +1,10 @@
 // The numbers of document 01 that are run: a call alone from its begin, in a world that acts lead to.
-use crate::calling::Call;
+use crate::calling::Named;
 use crate::lines::Answer;
 use crate::records::{Record, Setting};
 use crate::shown::{Number, Told};
 use crate::worlds::after;
-use calls::Event;
+use calls::{Call, Event};
 use once::Ending;
 use std::io;
 use words::Kind;
@@ -61,8 +61,7 @@ impl<'a, P: Print> Shown<'a, P> {
     }
 
     fn word(&self) -> Number {
-        let k = calls::word_number(self.kind, 0);
-        Number(self.world.words.get(k).copied().unwrap_or(0))
+        Number(calls::word_number(self.kind, 0).map_or(0, |k| self.world.word(k)))
     }
 
     // The call of a thread that is under way is run, and its word shown before and after.
@@ -71,7 +70,8 @@ impl<'a, P: Print> Shown<'a, P> {
         let ran = run(self.world, thread);
         self.world = ran.world;
         println!(self.rt;
-            "numbers: {call} at {before}: {} after {}, word {}",
+            "numbers: {} at {before}: {} after {}, word {}",
+            Named(call),
             Told(ran.event),
             ran.steps,
             self.word()

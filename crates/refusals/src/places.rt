@@ -38,11 +38,11 @@ pub enum Place {
     WriteWaitsOn,
     DowngradeSubtracts,
     OnceCallRunsFrom,
-    OnceCallIgnoringPoisonRunsFrom,
+    OnceCallForceRunsFrom,
     OnceCallQueuesFrom,
     OnceCallWaitsOn,
     OnceWaitQueuesFrom,
-    OnceWaitIgnoringPoisonQueuesFrom,
+    OnceWaitForceQueuesFrom,
     OnceWaitWaitsOn,
     InClosureOf,
     Idle,
@@ -79,11 +79,11 @@ impl fmt::Display for Place {
             Place::WriteWaitsOn => "write waits on",
             Place::DowngradeSubtracts => "downgrade subtracts",
             Place::OnceCallRunsFrom => "Once call runs from",
-            Place::OnceCallIgnoringPoisonRunsFrom => "Once call, poison ignored, runs from",
+            Place::OnceCallForceRunsFrom => "Once call, poison ignored, runs from",
             Place::OnceCallQueuesFrom => "Once call queues from",
             Place::OnceCallWaitsOn => "Once call waits on",
             Place::OnceWaitQueuesFrom => "Once wait queues from",
-            Place::OnceWaitIgnoringPoisonQueuesFrom => "Once wait, poison ignored, queues from",
+            Place::OnceWaitForceQueuesFrom => "Once wait, poison ignored, queues from",
             Place::OnceWaitWaitsOn => "Once wait waits on",
             Place::InClosureOf => "in a closure of",
             Place::Idle => "idle",
@@ -197,13 +197,11 @@ impl Place {
                 at: DowngradeAt::Subtract,
             }),
             Place::OnceCallRunsFrom => once_call(false, CallAt::ExchangeRunning { seen }),
-            Place::OnceCallIgnoringPoisonRunsFrom => {
-                once_call(true, CallAt::ExchangeRunning { seen })
-            }
+            Place::OnceCallForceRunsFrom => { once_call(true, CallAt::ExchangeRunning { seen }) }
             Place::OnceCallQueuesFrom => once_call(false, CallAt::ExchangeQueued { seen }),
             Place::OnceCallWaitsOn => once_call(false, CallAt::Wait { seen }),
             Place::OnceWaitQueuesFrom => once_wait(false, once::WaitAt::ExchangeQueued { seen }),
-            Place::OnceWaitIgnoringPoisonQueuesFrom => {
+            Place::OnceWaitForceQueuesFrom => {
                 once_wait(true, once::WaitAt::ExchangeQueued { seen })
             }
             Place::OnceWaitWaitsOn => once_wait(false, once::WaitAt::Wait { seen }),

@@ -1,7 +1,7 @@
 // Records of acts.
-use crate::calling::Call;
 use crate::shown::Number;
 use acts::Fields;
+use calls::Call;
 use once::Ending;
 use std::fmt;
 

@@ -1,13 +1,12 @@
 // Clause 3 of soundness: each sleeper is at a futex_wait and stands once in the row, and nobody else does. Places
 // of the row that do not count are 0.
-use crate::calling::Call;
 use crate::forge::{self, Forge};
 use crate::lines;
 use crate::places::Inside;
 use crate::places::Place::*;
 use crate::records::Record;
 use crate::shown::Number;
-use calls::Thread;
+use calls::{Call, Thread};
 use queue::THREADS;
 use std::{fmt, io};
 use world::World;

@@ -1,9 +1,9 @@
 // Clauses 4 to 6 of soundness: the words, by themselves and with the holds.
-use crate::calling::Call;
 use crate::forge::{self, Forge, Hold};
 use crate::lines;
 use crate::records::Record;
 use crate::shown::{Number, kind_name};
+use calls::Call;
 use std::{fmt, io};
 use words::Kind;
 use world::World;

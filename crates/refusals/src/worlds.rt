@@ -1,10 +1,10 @@
 // The worlds that records are fed to: most of them acts lead to, the others are forged.
-use crate::calling::Call;
 use crate::forge::{self, Forge};
 use crate::holds::Holding;
 use crate::lines::Answer;
 use crate::places::Place;
 use crate::records::Record;
+use calls::Call;
 use once::Ending;
 use queue::THREADS;
 use std::fmt;
@@ -62,7 +62,7 @@ impl Scene {
             Scene::MutexWordOf3 => forge::fresh(true).word(Kind::Mutex, 0, 3),
             Scene::IdleAndAsleep => forge::fresh(true).sleeps(Place::Idle.with(0)),
             Scene::AsleepInClosure => forge::fresh(true).sleeps(Place::InClosureOf.with(0)),
-            Scene::InLockUnnoted => forge::fresh(false).stands(0, Call::Lock.entry(0, 0)),
+            Scene::InLockUnnoted => forge::fresh(false).stands(0, calls::start(Call::Lock, 0, 0)),
             Scene::AsleepUnnoted => forge::fresh(false).sleeps(Place::ParkWaitsOn.with(0)),
             Scene::AwakeInRow => begun(Call::Park, 0, 0, 1).row([0; THREADS], 1),
         }
