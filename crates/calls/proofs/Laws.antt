@@ -10,19 +10,14 @@ use Rattle.words.specs.declared.Next.{Next}
 use Rattle.words.specs.declared.Next.TheVariants as Nx
 use Rattle.words.specs.declared.Step.{Step}
 use Rattle.words.specs.Steps.{map_step}
-use Rattle.mutex.specs.declared.MutexAt.{MutexAt}
 use Rattle.mutex.specs.Mutex as Mx
 use Rattle.mutex.proofs.Laws as MxL
-use Rattle.rwlock.specs.declared.RwLockAt.{RwLockAt}
 use Rattle.rwlock.specs.RwLock as Rw
 use Rattle.rwlock.proofs.Laws as RwL
-use Rattle.condvar.specs.declared.CondvarAt.{CondvarAt}
 use Rattle.condvar.specs.Condvar as Cv
 use Rattle.condvar.proofs.Laws as CvL
-use Rattle.once.specs.declared.OnceAt.{OnceAt}
 use Rattle.once.specs.Once as On
 use Rattle.once.proofs.Laws as OnL
-use Rattle.thread_parking.specs.declared.ParkerAt.{ParkerAt}
 use Rattle.thread_parking.specs.ThreadParking as Pk
 use Rattle.thread_parking.proofs.Laws as PkL
 use Rattle.calls.specs.declared.At.{At}

@@ -7,7 +7,6 @@ use lib.Dec.{eqb}
 use Rattle.words.proofs.Cond.{either}
 use Rattle.words.specs.declared.Wake.TheVariants as W
 use Rattle.words.specs.declared.Step.{Step}
-use Rattle.words.specs.Steps.{moves, sleeps}
 use Rattle.mutex.proofs.Laws.{lock-calm, unlock-calm}
 use Rattle.condvar.specs.declared.WaitAt.{WaitAt}
 use Rattle.condvar.specs.declared.WaitAt.TheVariants as Wt

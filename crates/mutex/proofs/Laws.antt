@@ -7,7 +7,7 @@ use Rattle.words.proofs.Cond.{either}
 use Rattle.words.specs.Mutex.{is_unlocked, is_locked, is_contended}
 use Rattle.words.specs.declared.Wake.TheVariants as W
 use Rattle.words.specs.declared.Step.{Step}
-use Rattle.words.specs.Steps.{moves, sleeps}
+use Rattle.words.specs.Steps.{moves}
 use Rattle.mutex.specs.declared.LockAt.{LockAt}
 use Rattle.mutex.specs.declared.LockAt.TheVariants as L
 use Rattle.mutex.specs.declared.UnlockAt.{UnlockAt}

@@ -11,7 +11,6 @@ use Rattle.words.specs.declared.Hold.{Hold}
 use Rattle.words.specs.declared.Hold.TheVariants as H
 use Rattle.words.specs.declared.Wake.TheVariants as W
 use Rattle.words.specs.declared.Step.{Step}
-use Rattle.words.specs.Steps.{moves_with, sleeps, ends, panics}
 use Rattle.rwlock.specs.declared.ReadAt.{ReadAt}
 use Rattle.rwlock.specs.declared.ReadAt.TheVariants as R
 use Rattle.rwlock.specs.declared.TryAt.{TryAt}

@@ -8,7 +8,6 @@ use Rattle.words.specs.declared.Hold.{Hold}
 use Rattle.words.specs.declared.Hold.TheVariants as H
 use Rattle.words.specs.declared.Panic.TheVariants as P
 use Rattle.words.specs.declared.Step.{Step}
-use Rattle.words.specs.declared.Wake.{Wake}
 use Rattle.words.specs.declared.Wake.TheVariants as W
 use Rattle.rwlock.specs.declared.RwLockCall.{RwLockCall}
 use Rattle.rwlock.specs.declared.RwLockCall.TheVariants as C
