@@ -43,7 +43,7 @@ unfolding RwLockWord.count RwLockWord.readers_waiting RwLockWord.writers_waiting
 opens-rw-lock-word = 0
 
 unfoldable opens_row : ℕ
-unfolding Row.passing Row.queue_of Row.row_of Row.pushed Row.push_of Row.removed_at Row.removed Row.taken_out Row.take_out_of Row.place_from Row.place_of Row.without_of Row.occ Row.all_zero Row.is_tidy
+unfolding Row.passing Row.queue_of Row.row_of Row.pushed Row.push_of Row.removed_at Row.removed Row.taken_out Row.take_out_of Row.place_of Row.without_of Row.occ Row.all_zero Row.is_tidy
 opens_row = 0
 
 unfoldable opens-mutex : ℕ

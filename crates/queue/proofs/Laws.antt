@@ -12,10 +12,11 @@ use lib.Seq.{take-suc-set, take-append_seam, get_or-take, length-take-le}
 use Rattle.std.specs.Prelude.{Option}
 use Rattle.std.specs.Option.{unwrap_or}
 use Rattle.queue.specs.declared.Row.{Row}
+use Rattle.words.specs.Found.{found}
 use Rattle.queue.specs.Row.{THREADS, sleepers, passing, failing, queue_of, empty_row, row_of, pushed, push_of, removed_at, taken_out, refused, take_out_of, place_of, without_of, occ}
 use Rattle.queue.proofs.Part.{Agree, none-passing, passing-append, passing-agree, passing-none, passing-length, passing-split, passing-failing, passing-others, passing-removed, occ-append, occ-passing, occ-removed, no_longer}
 use Rattle.queue.proofs.Places.{length_removed, removed-take}
-use Rattle.queue.proofs.Search.{Found, is_found, found_first, nothing, position-agree, place-bound, place_none}
+use Rattle.queue.proofs.Search.{Found, found-position, is_found, found_first, nothing, position-agree, place-bound, place_none}
 
 pub empty-sleepers : sleepers empty_row ≡ []
 empty-sleepers = refl
@@ -208,6 +209,13 @@ module _ (f : ℕ → Bool) (row : Row) where
   pub place-of-bound : row.count ≤ THREADS → place_of f row ≤ THREADS
   unfolding place_of
   place-of-bound k = place-bound f (sleepers row) (short k)
+
+  -- a place found or not says which it is, THREADS where there is none
+  pub place-of-or : length row.places ≤ THREADS → unwrap_or (found THREADS (place_of f row)) THREADS ≡ place_of f row
+  unfolding place_of
+  place-of-or k =
+      let h : length (sleepers row) ≤ THREADS = simp length-take (omega arith) in
+      ap (λ (o : Option ℕ). unwrap_or o THREADS) (sym (found-position f (sleepers row) h))
 
   -- who is found is the head of the queue, and leaves the rest of it
   pub longest-first :
