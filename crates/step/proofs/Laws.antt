@@ -141,7 +141,7 @@ stepped w t fails th k place word anyone p r long eth ek epl ew ea ep er =
     er ∙ rw (← eth, ← f.1, h, ← m, ← ew, ep, a, m)
 
 pub not-stepped :
-    (w : World) (t : ℕ) (fails : Bool) (th : Thread) →
-    th ≡ thread_at w t → found WORDS (operand_of t th.at) ≡ None → refused 19 w ≡ step_of w t fails
+    (w : World) (t : ℕ) (fails : Bool) (th : Thread) (k : ℕ) →
+    th ≡ thread_at w t → k ≡ operand_of t th.at → ltb k WORDS ≡ false → refused 19 w ≡ step_of w t fails
 unfolding step_of
-not-stepped w t fails th eth e = rw (← eth, found-none WORDS (operand_of t th.at) e)
+not-stepped w t fails th k eth ek h = rw (← eth, ← ek, h)
