@@ -56,7 +56,7 @@ impl Stored for bool {
     }
 
     fn write<W: fmt::Write>(&self, f: &mut fmt::Formatter<W>) -> fmt::Result {
-        u8::from(*self).write(f)
+        f.write_str(if *self { "01" } else { "00" })
     }
 }
 

@@ -292,21 +292,16 @@ impl From<MutexAt> for Record {
 impl From<ParkerAt> for Record {
     fn from(place: ParkerAt) -> Record {
         match place {
-            ParkerAt::Park {
-                at: ParkAt::Subtract,
-            } => at(10),
-            ParkerAt::Park { at: ParkAt::Wait } => at(11),
-            ParkerAt::Park {
-                at: ParkAt::Exchange,
-            } => at(12),
-            ParkerAt::Unpark {
-                thread,
-                at: UnparkAt::Swap,
-            } => at(13).object(thread),
-            ParkerAt::Unpark {
-                thread,
-                at: UnparkAt::Wake,
-            } => at(14).object(thread),
+            ParkerAt::Park { at: place } => at(match place {
+                ParkAt::Subtract => 10,
+                ParkAt::Wait => 11,
+                ParkAt::Exchange => 12,
+            }),
+            ParkerAt::Unpark { thread, at: place } => at(match place {
+                UnparkAt::Swap => 13,
+                UnparkAt::Wake => 14,
+            })
+            .object(thread),
         }
     }
 }
@@ -326,22 +321,12 @@ impl From<CondvarAt> for Record {
     fn from(place: CondvarAt) -> Record {
         match place {
             CondvarAt::Wait { mutex, at } => Record::from(at).mutex(mutex),
-            CondvarAt::Notify {
-                all: false,
-                at: NotifyAt::Add,
-            } => at(25),
-            CondvarAt::Notify {
-                all: false,
-                at: NotifyAt::Wake,
-            } => at(26),
-            CondvarAt::Notify {
-                all: true,
-                at: NotifyAt::Add,
-            } => at(27),
-            CondvarAt::Notify {
-                all: true,
-                at: NotifyAt::Wake,
-            } => at(28),
+            CondvarAt::Notify { all, at: place } => at(match (all, place) {
+                (false, NotifyAt::Add) => 25,
+                (false, NotifyAt::Wake) => 26,
+                (true, NotifyAt::Add) => 27,
+                (true, NotifyAt::Wake) => 28,
+            }),
         }
     }
 }

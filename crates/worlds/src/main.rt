@@ -180,6 +180,5 @@ fn replay(rt: &(impl Print + Eprint), input: &mut impl Read) -> io::Result<()> {
 }
 
 fn main(rt: HostRuntime) {
-    let mut input = rt.reader();
-    let _ = replay(&rt, &mut input);
+    let _ = replay(&rt, &mut rt.reader());
 }
