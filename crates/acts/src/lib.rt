@@ -74,11 +74,11 @@ impl TryFrom<u8> for Change {
     }
 }
 
-// Why an act is refused.
+// Why an act is refused, with the number that is told of it.
 #[derive(Clone, Copy, Debug, PartialEq, Eq)]
 pub enum Refusal {
     // no such act or choice, or a field that the act does not name is not 0
-    Unknown,
+    Unknown = 1,
     NoSuchThread,
     NoSuchObject,
     // the thread that would begin a call is in one
@@ -97,29 +97,14 @@ pub enum Refusal {
     // more forgotten reads than there may be readers
     OutOfRange,
     // the parts of the world disagree
-    Unsound,
+    Unsound = 19,
 }
 
 impl Refusal {
     pub fn number(self) -> u8
         ensures { result ≡ number_of self }
     {
-        match self {
-            Refusal::Unknown => 1,
-            Refusal::NoSuchThread => 2,
-            Refusal::NoSuchObject => 3,
-            Refusal::InsideCall => 4,
-            Refusal::Idle => 5,
-            Refusal::Asleep => 6,
-            Refusal::Awake => 7,
-            Refusal::NoWeakExchange => 8,
-            Refusal::NoHold => 9,
-            Refusal::InsideClosure => 10,
-            Refusal::OutsideClosure => 11,
-            Refusal::Started => 12,
-            Refusal::OutOfRange => 13,
-            Refusal::Unsound => 19,
-        }
+        self as u8
     }
 }
 
