@@ -21,12 +21,14 @@ use Rattle.lines.proofs.Laid.{laid-take, laid-drop, laid-length, laid_none, lay-
 use Rattle.lines.proofs.Line.{line-some}
 use Rattle.world.specs.declared.World.{World}
 use Rattle.world.specs.World.{thread_at}
+use Rattle.step.specs.declared.Acted.{Acted}
+use Rattle.acts.specs.declared.Fields.{Fields}
 use Rattle.replay_log.specs.declared.Stop.{Stop}
 use Rattle.replay_log.specs.declared.Stop.TheVariants as S
 use Rattle.replay_log.specs.declared.Ran.{Ran}
 use Rattle.replay_log.specs.declared.Finished.{Finished}
-use Rattle.replay_log.specs.Run.{LAST, State, Run, Answers, if_any, stopped, prefixed, fields_of, noted, ending_of, last_line, last_state, turn_of, record_line, record_state, run_of, state_of, ran_of, finish_of, finished_tally, finished_line, finished_of, moved_of, carried_of}
-use Rattle.replay_log.specs.InPlace.{fits, told, Told, NoRoom, Tells, answer_in, next_event, went, Went, Ends, Turns}
+use Rattle.replay_log.specs.Run.{LAST, State, Run, Answers, answer_of, if_any, stopped, prefixed, fields_of, noted, ending_of, last_line, last_state, turn_of, record_line, record_state, run_of, state_of, ran_of, finish_of, finished_tally, finished_line, finished_of, moved_of, carried_of}
+use Rattle.replay_log.specs.InPlace.{fits, told, Told, NoRoom, Tells, acted_on, Acted_on, Acts, answer_in, next_event, numbered_on, Went, Ends, Turns}
 use Rattle.replay_log.proofs.Unroll.{prefixed-none, prefixed-twice, runs-out, unroll-record, turn-goes, turn-full, turn-ends, turn-ends-full}
 
 -- a part from a place to the end, as the code takes it
@@ -88,47 +90,72 @@ pub numbered : (number : ℕ) (l : List ℕ) → ending_of number l ≡ 0 → nu
 unfolding ending_of
 numbered number l e h = let bad : ◌≡◌ {A = ℕ} 22 0 = sym (rw h refl) ∙ e in omega arith
 
--- a turn, by what it told
-module _ (sound : Bool) (l : List ℕ) (r r' : Ran) (out out' : List ℕ) (e : Event) (grant : Bool) where
-  -- its line had no room
-  pub not-run :
-      (x : Stop) {res : Result (Unit {0}) Stop} → res ≡ Err x → e ≡ next_event sound l r → Tells e grant r r' out out' (Err x) → Turns sound l r r' out out' res
+-- an act of a record, and a turn, where the line has no room
+module _ (r r' : Ran) (out out' : List ℕ) (e : Event) {res : Result (Unit {0}) Stop} (x : Stop) (is : res ≡ Err x) where
+  pub not-acted : (a : Fields) (d : Acted) (grant : Bool) → e ≡ d.event → Tells e grant r r' out out' (Err x) → Acts a d r r' out out' res
+  unfolding Tells Acts
+  not-acted a d grant ee t = rw is (by x t)
+    where
+      by : (y : Stop) → Tells e grant r r' out out' (Err y) → Acts a d r r' out out' (Err y)
+      by S.Room t = rw (← ee) t
+      by S.Short t = absurd t
+      by (S.Ended number) t = absurd t
+
+  pub not-ended : (sound : Bool) (l : List ℕ) (grant : Bool) → e ≡ next_event sound l r → Tells e grant r r' out out' (Err x) → Turns sound l r r' out out' res
   unfolding Tells Turns
-  not-run S.Room er ee t = rw (er, ← ee) t
-  not-run S.Short er ee t = absurd t
-  not-run (S.Ended number) er ee t = absurd t
+  not-ended sound l grant ee t = rw is (by x t)
+    where
+      by : (y : Stop) → Tells e grant r r' out out' (Err y) → Turns sound l r r' out out' (Err y)
+      by S.Room t = rw (← ee) t
+      by S.Short t = absurd t
+      by (S.Ended number) t = absurd t
 
-  -- it had, and the act is stored
-  pub was-run :
-      ending_of r.number l ≡ 0 → e ≡ (answer_in sound l r).event → grant ≡ grants_of (thread_at r.world (fields_of l).thread).at → Tells e grant r r' out out' (Ok tt) →
-      (w : World) → w ≡ (answer_in sound l r).world →
-      Turns sound l r (record { world = w; tally = r'.tally; number = r'.number + 1; used = r'.used; count = r'.count; stop = r'.stop }) out out' (Ok tt)
-  unfolding Tells Turns told went
-  was-run z ee eg t w ew = record {
-    goes = z;
-    room = ap (fits out r) (sym ee) ∙ t.room;
-    after = rw (t.after, ew, ee, eg) refl;
-    lays = t.lays ∙ ap (λ (x : Event). laid out r.count (line_of r.number x)) ee;
-  }
+-- an act of a record, told and stored
+pub acts_told :
+    (a : Fields) (d : Acted) (r r' : Ran) (out out' : List ℕ) (e : Event) (grant : Bool) {done : Unit {0}} (w : World) → e ≡ d.event →
+    grant ≡ grants_of (thread_at r.world a.thread).at → w ≡ d.world → Tells e grant r r' out out' (Ok done) →
+    Acts a d r (record { world = w; tally = r'.tally; number = r'.number; used = r'.used; count = r'.count; stop = r'.stop }) out out' (Ok tt)
+unfolding Tells Acts told acted_on
+acts_told a d r r' out out' e grant w ee eg ew t = record {
+  room = ap (fits out r) (sym ee) ∙ t.room;
+  after = rw (t.after, ew, ee, eg) refl;
+  lays = t.lays ∙ ap (λ (x : Event). laid out r.count (line_of r.number x)) ee;
+}
 
--- telling an event leaves the number
-pub told-number : (e : Event) (grant : Bool) (r r' : Ran) (out out' : List ℕ) {done : Unit {0}} → Tells e grant r r' out out' (Ok done) → r'.number ≡ r.number
-unfolding Tells told
-told-number e grant r r' out out' t = ap (λ (x : Ran). x.number) t.after
-
--- .. and the world
+-- telling an event leaves the world
 pub told_world : (e : Event) (grant : Bool) (r r' : Ran) (out out' : List ℕ) {done : Unit {0}} → Tells e grant r r' out out' (Ok done) → r'.world ≡ r.world
 unfolding Tells told
 told_world e grant r r' out out' t = ap (λ (x : Ran). x.world) t.after
 
--- what is told before the run ends, or goes on
+-- doing an act leaves the number
+pub acted_number : (a : Fields) (d : Acted) (r r' : Ran) (out out' : List ℕ) {done : Unit {0}} → Acts a d r r' out out' (Ok done) → r'.number ≡ r.number
+unfolding Acts acted_on
+acted_number a d r r' out out' t = ap (λ (x : Ran). x.number) t.after
+
+-- the refusal that ends the run is what is told next
 pub refusal-next : (sound : Bool) (l : List ℕ) (r : Ran) (number : ℕ) → Some number ≡ if_any (ending_of r.number l) → E.Refused number ≡ next_event sound l r
 unfolding next_event
 refusal-next sound l r number e = let h = if-some (ending_of r.number l) number e in rw (← h.1, h.0) refl
 
-pub act-next : (sound : Bool) (l : List ℕ) (r : Ran) → ending_of r.number l ≡ 0 → (answer_in sound l r).event ≡ next_event sound l r
-unfolding next_event
-act-next sound l r z = rw z refl
+-- a turn over a record that has an act
+module _ (sound : Bool) (l : List ℕ) (r r' : Ran) (out out' : List ℕ) (a : Fields) (z : ending_of r.number l ≡ 0) (ea : a ≡ fields_of l) where
+  pub turn-acts :
+      {done : Unit {0}} → Acts a (answer_of sound r.world a) r r' out out' (Ok done) →
+      Turns sound l r (record { world = r'.world; tally = r'.tally; number = r'.number + 1; used = r'.used; count = r'.count; stop = r'.stop }) out out' (Ok tt)
+  unfolding Acts Turns numbered_on
+  turn-acts t = by (subst (λ (x : Fields). Acted_on x (answer_of sound r.world x) r r' out out') ea t)
+    where
+      by : Acted_on (fields_of l) (answer_in sound l r) r r' out out' → Went sound l r (numbered_on r') out out'
+      by t = record { goes = z; room = t.room; after = ap numbered_on t.after; lays = t.lays }
+
+  pub turn-has-no-room : {res : Result (Unit {0}) Stop} (x : Stop) → res ≡ Err x → Acts a (answer_of sound r.world a) r r' out out' (Err x) → Turns sound l r r' out out' res
+  unfolding Acts Turns next_event
+  turn-has-no-room x is t = rw is (by x (subst (λ (b : Fields). Acts b (answer_of sound r.world b) r r' out out' (Err x)) ea t))
+    where
+      by : (y : Stop) → Acts (fields_of l) (answer_in sound l r) r r' out out' (Err y) → Turns sound l r r' out out' (Err y)
+      by S.Room t = rw z t
+      by S.Short t = absurd t
+      by (S.Ended number) t = absurd t
 
 -- room for so many bytes behind a place
 shifted : (at n len : ℕ) → at ≤ len → leb n (len - at) ≡ leb (at + n) len
@@ -258,7 +285,7 @@ module _ (sound : Bool) (log out₀ : List ℕ) (s₀ : State) (out : List ℕ) 
     -- the run goes on behind the record
     pub goes-on : (r' : Ran) (out' : List ℕ) {done : Unit {0}} → Turns sound x r r' out out' (Ok done) →
         Inv sound log out₀ s₀ out' (record { world = r'.world; tally = r'.tally; number = r'.number; used = r'.used + 10; count = r'.count; stop = r'.stop }) rest'
-    unfolding went noted Turns
+    unfolding numbered_on acted_on noted Turns
     goes-on r' out' n =
         subst (λ (v : Ran). Inv sound log out₀ s₀ out' (record { world = v.world; tally = v.tally; number = v.number; used = v.used + 10; count = v.count; stop = v.stop }) rest') (sym n.after)
         (record {

@@ -33,7 +33,7 @@ use Rattle.acts.specs.Refusals.{SET, BEGIN, STEP, start_of, fields_refusal, begi
 use Rattle.acts.specs.Acts.{accepted_of, acted_of}
 use Rattle.replay_log.specs.Run.{answer_of}
 use Rattle.replay_log.specs.declared.Change.TheVariants as C
-use Rattle.replay_log.specs.InPlace.{quick_of, quick_begin, told_by, stored_by, done, IsThere}
+use Rattle.replay_log.specs.InPlace.{quick_of, quick_begin, told_by, stored_by, IsThere, Does}
 
 negated : (b : Bool) → not b ≡ true → b ≡ false
 negated true e = sym e
@@ -98,7 +98,7 @@ calm-step w t k fails th p eth ek inside ep none = rw (← eth, ← ek, inside, 
 pub quick-step :
     (sound : Bool) (w : World) (a : Fields) (th : Thread) (k : ℕ) (p : Plan) → quick_of sound a th k ≡ true → th ≡ thread_at w a.thread →
     k ≡ operand_of a.thread th.at → p ≡ decide_of th.at (eqb a.choice 1) (get_or w.words k 0) false →
-    (done w a.thread (C.Step k p) ≡ answer_of sound w a) × IsThere a.thread (C.Step k p)
+    Does sound w a (C.Step k p)
 unfolding told_by stored_by IsThere
 quick-step sound w a th k p q at ek ep =
     let f : Found sound a th k = found sound a th k q in
@@ -107,8 +107,8 @@ quick-step sound w a th k p q at ek ep =
     let plan : p ≡ decide_of th.at (eqb a.choice 1) (get_or w.words k 0) (ltb place THREADS) = ep ∙ quiet th.at (eqb a.choice 1) (get_or w.words k 0) false (ltb place THREADS) f.calms in
     let none : p.wake ≡ W.None = ap (λ (x : Plan). x.wake) ep ∙ calm th.at (eqb a.choice 1) (get_or w.words k 0) false f.calms in
     let allowed : eqb (step_refusal (thread_at w a.thread) a.choice) 0 ≡ true = ap (λ (x : Thread). eqb (step_refusal x a.choice) 0) (sym at) ∙ f.allowed in
-    (calm-step w a.thread k (eqb a.choice 1) th p at ek f.word plan none ∙ sym (step-answered sound w a f.sounds f.act f.fields allowed),
-    (ltb-true a.thread THREADS f.there, inside))
+    let does = calm-step w a.thread k (eqb a.choice 1) th p at ek f.word plan none ∙ sym (step-answered sound w a f.sounds f.act f.fields allowed) in
+    record { there = (ltb-true a.thread THREADS f.there, inside); event = ap (λ (d : Acted). d.event) does; world = ap (λ (d : Acted). d.world) does }
 
 -- what the test of a quick begin found
 record Ready (sound : Bool) (a : Fields) (th : Thread) (held : Bool) : Type 0 where
@@ -160,7 +160,7 @@ begin-answered sound w a s e f r h =
 pub begin-step :
     (sound : Bool) (w : World) (a : Fields) (th : Thread) (held : Bool) (at : At) (need : Need) → quick_begin sound a th held ≡ true → th ≡ thread_at w a.thread →
     at ≡ start_of a → need ≡ need_of at → held ≡ has_hold w.locked w.written w.reads a.thread need →
-    (done w a.thread (C.Begin at) ≡ answer_of sound w a) × IsThere a.thread (C.Begin at)
+    Does sound w a (C.Begin at)
 unfolding told_by stored_by begin_of recorded IsThere
 begin-step sound w a th held at need q own es en eh =
     let f : Ready sound a th held = ready sound a th held q in
@@ -168,4 +168,5 @@ begin-step sound w a th held at need q own es en eh =
     let needs : need ≡ need_of (start_of a) = en ∙ ap need_of es in
     let holds : has_hold w.locked w.written w.reads a.thread (need_of (start_of a)) ≡ true =
     ap (has_hold w.locked w.written w.reads a.thread) (sym needs) ∙ (sym eh ∙ f.holds) in
-    (rw es (sym (begin-answered sound w a f.sounds f.act f.fields rests holds)), ltb-true a.thread THREADS f.there)
+    let does : begin_of w a.thread at ≡ answer_of sound w a = rw es (sym (begin-answered sound w a f.sounds f.act f.fields rests holds)) in
+    record { there = ltb-true a.thread THREADS f.there; event = ap (λ (d : Acted). d.event) does; world = ap (λ (d : Acted). d.world) does }

@@ -41,21 +41,21 @@ quick_begin sound a th held =
 unfoldable pub told_by : Change → Event
 told_by (C.Step k plan) = tell_of plan.event 0
 told_by (C.Begin at) = E.Begun
-told_by (C.Other acted) = acted.event
 
 unfoldable pub stored_by : World → ℕ → Change → World
 stored_by w t (C.Step k plan) = own_plan w t k plan
 stored_by w t (C.Begin at) = (begin_of w t at).world
-stored_by w t (C.Other acted) = acted.world
-
-abbrev pub done : World → ℕ → Change → Acted
-done w t change = record { event = told_by change; world = stored_by w t change }
 
 -- the thread and the word that are stored to are there
 unfoldable pub IsThere : ℕ → Change → Type 0
 IsThere t (C.Step k plan) = (t < THREADS) × (k < WORDS)
 IsThere t (C.Begin at) = t < THREADS
-IsThere t (C.Other acted) = Unit
+
+-- a change is what the act of the record does
+pub record Does (sound : Bool) (w : World) (a : Fields) (change : Change) : Type 0 where
+  pub there : IsThere a.thread change
+  pub event : told_by change ≡ (answer_of sound w a).event
+  pub world : stored_by w a.thread change ≡ (answer_of sound w a).world
 
 -- whether an event's line has room behind those of a run
 abbrev pub fits : List ℕ → Ran → Event → Bool
@@ -84,16 +84,29 @@ Tells e grant r r' out out' (Err S.Short) = ⊥
 Tells e grant r r' out out' (Err S.Room) = NoRoom e r r' out out'
 Tells e grant r r' out out' (Err (S.Ended number)) = ⊥
 
--- a run behind one more record, but for the bytes used
-unfoldable pub went : Ran → Fields → Acted → Ran
-went r a d = record {
+-- a run with an act's answer told, and its world
+unfoldable pub acted_on : Ran → Fields → Acted → Ran
+acted_on r a d = record {
   world = d.world;
   tally = add_event r.tally d.event (grants_of (thread_at r.world a.thread).at);
-  number = r.number + 1;
+  number = r.number;
   used = r.used;
   count = r.count + length (line_of r.number d.event);
   stop = r.stop;
 }
+
+-- an act's line laid, and its answer stored
+pub record Acted_on (a : Fields) (d : Acted) (r r' : Ran) (out out' : List ℕ) : Type 0 where
+  pub room : fits out r d.event ≡ true
+  pub after : r' ≡ acted_on r a d
+  pub lays : out' ≡ laid out r.count (line_of r.number d.event)
+
+-- an attempt to do a record's act, whose answer is d
+unfoldable pub Acts : Fields → Acted → Ran → Ran → List ℕ → List ℕ → Result Unit Stop → Type 0
+Acts a d r r' out out' (Ok done) = Acted_on a d r r' out out'
+Acts a d r r' out out' (Err S.Short) = ⊥
+Acts a d r r' out out' (Err S.Room) = NoRoom d.event r r' out out'
+Acts a d r r' out out' (Err (S.Ended number)) = ⊥
 
 -- the answer to the record that the bytes begin with, in a run's world
 abbrev pub answer_in : Bool → List ℕ → Ran → Acted
@@ -103,11 +116,14 @@ answer_in sound l r = answer_of sound r.world (fields_of l)
 unfoldable pub next_event : Bool → List ℕ → Ran → Event
 next_event sound l r = cond (eqb (ending_of r.number l) 0) (answer_in sound l r).event (E.Refused (ending_of r.number l))
 
--- one record was run
+-- one record was run: its act is done, and the next has the next number
+unfoldable pub numbered_on : Ran → Ran
+numbered_on r = record { world = r.world; tally = r.tally; number = r.number + 1; used = r.used; count = r.count; stop = r.stop }
+
 pub record Went (sound : Bool) (l : List ℕ) (r r' : Ran) (out out' : List ℕ) : Type 0 where
   pub goes : ending_of r.number l ≡ 0
   pub room : fits out r (answer_in sound l r).event ≡ true
-  pub after : r' ≡ went r (fields_of l) (answer_in sound l r)
+  pub after : r' ≡ numbered_on (acted_on r (fields_of l) (answer_in sound l r))
   pub lays : out' ≡ laid out r.count (line_of r.number (answer_in sound l r).event)
 
 -- a refusal was told that ends the run

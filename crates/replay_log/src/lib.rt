@@ -1,12 +1,13 @@
 // The run of a log: records of ten bytes, one line for each, and a tally. A log can be run in parts, each
 // from the world, the tally and the number that the part before it reached.
-#![tactic(auto, unfolding(step::specs::Acts::begin_of, step::specs::Acts::recorded, step::specs::Step::own_plan, crate::specs::InPlace::IsThere, crate::specs::InPlace::Tells, crate::specs::InPlace::Turns, crate::specs::InPlace::quick_begin, crate::specs::InPlace::quick_of, crate::specs::InPlace::stored_by, crate::specs::InPlace::told_by, crate::specs::Run::answer_of, crate::specs::Run::ending_of, crate::specs::Run::finish_of, crate::specs::Run::if_any, crate::specs::Run::mark_of))]
+#![tactic(auto, unfolding(step::specs::Acts::begin_of, step::specs::Acts::recorded, step::specs::Step::own_plan, crate::specs::InPlace::Acts, crate::specs::InPlace::IsThere, crate::specs::InPlace::Tells, crate::specs::InPlace::Turns, crate::specs::InPlace::quick_begin, crate::specs::InPlace::quick_of, crate::specs::InPlace::stored_by, crate::specs::InPlace::told_by, crate::specs::Run::answer_of, crate::specs::Run::ending_of, crate::specs::Run::finish_of, crate::specs::Run::if_any, crate::specs::Run::mark_of))]
 
-ghost use Rattle.std.specs.Prelude.{◌≡◌, ◌-◌, ◌≤◌, min, length, take, drop};
+ghost use Rattle.std.specs.Prelude.{◌≡◌, ◌-◌, ◌≤◌, min, length, take, drop, IfSome};
 ghost use Rattle.sound.specs.Sound.{sound_world};
 ghost use Rattle.lines.specs.Lines.{lay_of};
+ghost use Rattle.world.specs.World.{thread_at};
 ghost use Rattle.replay_log.specs.Run.{IsPrefixLen, fields_of, mark_of, if_any, ending_of, answer_of, run_of, state_of, Answers, carried_of, finish_of, finished_line, finished_of};
-ghost use Rattle.replay_log.specs.InPlace.{quick_of, quick_begin, done, told_by, stored_by, IsThere, Tells, Turns};
+ghost use Rattle.replay_log.specs.InPlace.{quick_of, quick_begin, told_by, stored_by, IsThere, Does, Tells, Acts, Turns};
 
 use acts::Fields;
 use calls::{At, Event, Plan, Thread, WORDS};
@@ -134,33 +135,31 @@ fn is_begin(sound: bool, a: Fields, th: Thread, held: bool) -> bool
         && held
 }
 
-// What the act of a record changes, worked out before its line is laid.
+// An act that is stored in place, worked out before its line is laid.
 #[derive(Clone, Copy)]
 enum Change {
     // a step over word k that wakes nobody
     Step { k: usize, plan: Plan },
     Begin { at: At },
-    // any other act: its event, and the world after it
-    Other(Acted),
 }
 
 impl Change {
-    fn of(sound: bool, w: &World, a: Fields) -> Change
-        ensures answer { done w.now a.thread result ≡ answer_of sound w.now a }
-        ensures there { IsThere a.thread result }
+    // What a record changes, if its act is one of these; `th`: the record of its thread.
+    fn of(sound: bool, w: &World, a: Fields, th: Thread) -> Option<Change>
+        requires { th ≡ thread_at w.now a.thread }
+        ensures { IfSome result (λ change. Does sound w.now a change) }
     {
-        let th = world::thread_at(w.threads, a.thread);
         let k = calls::operand(a.thread, th.at);
         if is_quick(sound, a, th, k) {
             let plan = calls::decide(th.at, a.choice == 1, w.words[k], false);
-            return Change::Step { k, plan };
+            return Some(Change::Step { k, plan });
         }
         let at = acts::start(a);
         let held = world::has_hold(w.locked, w.written, w.reads, a.thread, calls::needs(at));
         if is_begin(sound, a, th, held) {
-            return Change::Begin { at };
+            return Some(Change::Begin { at });
         }
-        Change::Other(answer(sound, *w, a))
+        None
     }
 
     fn event(&self) -> Event
@@ -169,7 +168,6 @@ impl Change {
         match self {
             Change::Step { plan, .. } => calls::tell(plan.event, 0),
             Change::Begin { .. } => Event::Begun,
-            Change::Other(acted) => acted.event,
         }
     }
 
@@ -178,6 +176,7 @@ impl Change {
         requires { IsThere t self.now }
         ensures { w.new ≡ stored_by w.old t self.now }
     {
+        let i = t as usize;
         match self {
             Change::Step { k, plan } => {
                 let m = world::mutex_slot(t, plan.object);
@@ -186,19 +185,17 @@ impl Change {
                 w.locked[m] = step::locked_after(plan.hold, w.locked[m]);
                 w.written[l] = step::written_after(plan.hold, w.written[l]);
                 w.reads[l] = step::reads_after(plan.hold, w.reads[l]);
-                w.threads[t as usize] = plan.next;
+                w.threads[i] = plan.next;
                 w.sleepers = step::slept_row(plan.next.asleep, w.sleepers, t);
-                w.started = true;
             }
             Change::Begin { at } => {
-                w.threads[t as usize] = Thread {
+                w.threads[i] = Thread {
                     at: *at,
                     asleep: false,
                 };
-                w.started = true;
             }
-            Change::Other(acted) => *w = acted.world,
         }
+        w.started = true;
     }
 }
 
@@ -216,6 +213,23 @@ impl Ran {
         Ok(())
     }
 
+    // Tells what a record's act answers, and then does it.
+    fn act(&mut self, sound: bool, a: Fields, out: &mut [u8]) -> Result<(), Stop>
+        ensures { Acts a (answer_of sound self.old.world a) self.old self.new out.old out.new result }
+    {
+        let th = world::thread_at(self.world.threads, a.thread);
+        let grant = tally::grants(th.at);
+        if let Some(change) = Change::of(sound, &self.world, a, th) {
+            self.tell(change.event(), grant, out)?;
+            change.store(&mut self.world, a.thread);
+            return Ok(());
+        }
+        let acted = answer(sound, self.world, a);
+        self.tell(acted.event, grant, out)?;
+        self.world = acted.world;
+        Ok(())
+    }
+
     // Runs the record that the bytes begin with.
     fn turn(&mut self, sound: bool, l: &[u8], out: &mut [u8]) -> Result<(), Stop>
         requires { 10 ≤ length l.now }
@@ -225,11 +239,7 @@ impl Ran {
             self.tell(Event::Refused { number }, false, out)?;
             return Err(Stop::Ended { number });
         }
-        let a = fields(l);
-        let change = Change::of(sound, &self.world, a);
-        let at = world::thread_at(self.world.threads, a.thread).at;
-        self.tell(change.event(), tally::grants(at), out)?;
-        change.store(&mut self.world, a.thread);
+        self.act(sound, fields(l), out)?;
         self.number += 1;
         Ok(())
     }
