@@ -3,6 +3,7 @@
 #![tactic(auto, unfolding(step::specs::Acts::begin_of, step::specs::Acts::recorded, step::specs::Step::own_plan, crate::specs::InPlace::Acts, crate::specs::InPlace::IsThere, crate::specs::InPlace::Tells, crate::specs::InPlace::Turns, crate::specs::InPlace::quick_begin, crate::specs::InPlace::quick_of, crate::specs::InPlace::stored_by, crate::specs::InPlace::told_by, crate::specs::Run::answer_of, crate::specs::Run::ending_of, crate::specs::Run::finish_of, crate::specs::Run::if_any, crate::specs::Run::mark_of))]
 
 ghost use Rattle.std.specs.Prelude.{◌≡◌, ◌-◌, ◌≤◌, min, length, take, drop, IfSome};
+ghost use Rattle.tally.specs.Tally.{grants_of};
 ghost use Rattle.sound.specs.Sound.{sound_world};
 ghost use Rattle.lines.specs.Lines.{lay_of};
 ghost use Rattle.world.specs.World.{thread_at};
@@ -213,21 +214,31 @@ impl Ran {
         Ok(())
     }
 
-    // Tells what a record's act answers, and then does it.
-    fn act(&mut self, sound: bool, a: Fields, out: &mut [u8]) -> Result<(), Stop>
+    // Tells what a record's act answers, and then does it; `grant`: whether its thread's call takes a lock.
+    fn act(&mut self, sound: bool, a: Fields, grant: bool, out: &mut [u8]) -> Result<(), Stop>
+        requires { grant ≡ grants_of (thread_at self.old.world a.thread).at }
         ensures { Acts a (answer_of sound self.old.world a) self.old self.new out.old out.new result }
     {
-        let th = world::thread_at(self.world.threads, a.thread);
-        let grant = tally::grants(th.at);
-        if let Some(change) = Change::of(sound, &self.world, a, th) {
-            self.tell(change.event(), grant, out)?;
-            change.store(&mut self.world, a.thread);
-            return Ok(());
-        }
         let acted = answer(sound, self.world, a);
         self.tell(acted.event, grant, out)?;
         self.world = acted.world;
         Ok(())
+    }
+
+    // The same, stored in place where that is known to be the answer.
+    fn quick_act(&mut self, sound: bool, a: Fields, out: &mut [u8]) -> Result<(), Stop>
+        ensures { Acts a (answer_of sound self.old.world a) self.old self.new out.old out.new result }
+    {
+        let th = world::thread_at(self.world.threads, a.thread);
+        let grant = tally::grants(th.at);
+        match Change::of(sound, &self.world, a, th) {
+            Some(change) => {
+                self.tell(change.event(), grant, out)?;
+                change.store(&mut self.world, a.thread);
+                Ok(())
+            }
+            None => self.act(sound, a, grant, out),
+        }
     }
 
     // Runs the record that the bytes begin with.
@@ -239,7 +250,7 @@ impl Ran {
             self.tell(Event::Refused { number }, false, out)?;
             return Err(Stop::Ended { number });
         }
-        self.act(sound, fields(l), out)?;
+        self.quick_act(sound, fields(l), out)?;
         self.number += 1;
         Ok(())
     }
