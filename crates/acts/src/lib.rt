@@ -2,28 +2,126 @@
 // has its number, by document 01's order, and changes nothing.
 #![tactic(auto, unfolding(crate::specs::Acts::accepted_of, crate::specs::Acts::act_of, crate::specs::Acts::acted_of, crate::specs::Acts::ending_of, crate::specs::Acts::set_of, crate::specs::Acts::set_world, crate::specs::Refusals::begin_refusal, crate::specs::Refusals::begin_unnamed_zero, crate::specs::Refusals::both_zero, crate::specs::Refusals::call_exists, crate::specs::Refusals::choices_of, crate::specs::Refusals::close_refusal, crate::specs::Refusals::fields_refusal, crate::specs::Refusals::object_exists, crate::specs::Refusals::object_if_named, crate::specs::Refusals::set_exists, crate::specs::Refusals::set_refusal, crate::specs::Refusals::set_unnamed_zero, crate::specs::Refusals::step_refusal, crate::specs::Refusals::thread_exists, crate::specs::Refusals::unnamed_zero, crate::specs::Refusals::value_if_named, crate::specs::Refusals::wait_exists, crate::specs::Refusals::wake_refusal, crate::specs::Refusals::world_refusal))]
 
-ghost use Rattle.std.specs.Prelude.{◌≡◌, set};
+ghost use Rattle.std.specs.Prelude.{◌≡◌, eqb};
+ghost use Rattle.calls.specs.Objects.{word_of};
 ghost use Rattle.step.specs.Step.{refused};
-ghost use Rattle.acts.specs.Refusals.{choices_of, set_unnamed_zero, object_if_named, value_if_named, begin_unnamed_zero, both_zero, unnamed_zero, set_exists, wait_exists, call_exists, object_exists, thread_exists, fields_refusal, start_of, set_refusal, begin_refusal, step_refusal, wake_refusal, close_refusal, world_refusal};
+ghost use Rattle.acts.specs.Numbers.{act_number, change_number, NamesAct, NamesChange, number_of, told};
+ghost use Rattle.acts.specs.Refusals.{choices_of, set_unnamed_zero, begin_unnamed_zero, unnamed_zero, set_exists, call_exists, object_exists, thread_exists, fields_refusal, start_of, set_refusal, begin_refusal, step_refusal, wake_refusal, close_refusal, world_refusal};
 ghost use Rattle.acts.specs.Acts.{with_word, with_forgotten, set_world, set_of, ending_of, accepted_of, acted_of, act_of};
 
-use calls::{At, CONDVARS, Event, MUTEXES, ONCES, RWLOCKS, Thread, WORDS};
+use calls::{At, CONDVARS, Call, Event, MUTEXES, ONCES, RWLOCKS, Thread};
 use once::Ending;
 use queue::THREADS;
 use step::Acted;
 use words::{Kind, OnceWord, RwLockWord};
 use world::World;
 
-// The acts.
-pub const SET: u8 = 0;
+// The acts, in the order of their numbers.
+#[derive(Clone, Copy, Debug, PartialEq, Eq)]
+pub enum Action {
+    Set,
+    Begin,
+    Step,
+    Wake,
+    Close,
+}
 
-pub const BEGIN: u8 = 1;
+// What a set changes, in the order of its choices.
+#[derive(Clone, Copy, Debug, PartialEq, Eq)]
+pub enum Change {
+    // the forgotten reads of an RwLock, with its state
+    ForgottenReads,
+    WriterNotify,
+    Condvar,
+    // a Once becomes COMPLETE
+    CompleteOnce,
+}
 
-pub const STEP: u8 = 2;
+// A number that names no act, or no choice of one.
+#[derive(Clone, Copy, Debug, PartialEq, Eq)]
+pub struct Unnamed;
 
-pub const WAKE: u8 = 3;
+impl TryFrom<u8> for Action {
+    type Error = Unnamed;
 
-pub const CLOSE: u8 = 4;
+    ghost try_from_gives = { NamesAct };
+
+    fn try_from(number: u8) -> Result<Self, Unnamed> {
+        match number {
+            0 => Ok(Action::Set),
+            1 => Ok(Action::Begin),
+            2 => Ok(Action::Step),
+            3 => Ok(Action::Wake),
+            4 => Ok(Action::Close),
+            _ => Err(Unnamed),
+        }
+    }
+}
+
+impl TryFrom<u8> for Change {
+    type Error = Unnamed;
+
+    ghost try_from_gives = { NamesChange };
+
+    fn try_from(number: u8) -> Result<Self, Unnamed> {
+        match number {
+            0 => Ok(Change::ForgottenReads),
+            1 => Ok(Change::WriterNotify),
+            2 => Ok(Change::Condvar),
+            3 => Ok(Change::CompleteOnce),
+            _ => Err(Unnamed),
+        }
+    }
+}
+
+// Why an act is refused.
+#[derive(Clone, Copy, Debug, PartialEq, Eq)]
+pub enum Refusal {
+    // no such act or choice, or a field that the act does not name is not 0
+    Unknown,
+    NoSuchThread,
+    NoSuchObject,
+    // the thread that would begin a call is in one
+    InsideCall,
+    Idle,
+    Asleep,
+    Awake,
+    // the exchange that would fail is none, or not a weak one
+    NoWeakExchange,
+    // the thread does not have the hold that the call takes away
+    NoHold,
+    InsideClosure,
+    OutsideClosure,
+    // a set, after another act was accepted
+    Started,
+    // more forgotten reads than there may be readers
+    OutOfRange,
+    // the parts of the world disagree
+    Unsound,
+}
+
+impl Refusal {
+    pub fn number(self) -> u8
+        ensures { result ≡ number_of self }
+    {
+        match self {
+            Refusal::Unknown => 1,
+            Refusal::NoSuchThread => 2,
+            Refusal::NoSuchObject => 3,
+            Refusal::InsideCall => 4,
+            Refusal::Idle => 5,
+            Refusal::Asleep => 6,
+            Refusal::Awake => 7,
+            Refusal::NoWeakExchange => 8,
+            Refusal::NoHold => 9,
+            Refusal::InsideClosure => 10,
+            Refusal::OutsideClosure => 11,
+            Refusal::Started => 12,
+            Refusal::OutOfRange => 13,
+            Refusal::Unsound => 19,
+        }
+    }
+}
 
 // How many objects of each kind a record may name: all there are.
 pub const NAMED_MUTEXES: usize = MUTEXES;
@@ -44,207 +142,126 @@ pub struct Fields {
     pub value: u32,
 }
 
-fn choices_of(act: u8) -> u8
-    ensures { result ≡ choices_of act }
+// How many choices an act has.
+fn choices(act: Action) -> u8
+    ensures { result ≡ choices_of (act_number act) }
 {
-    let set = act == SET;
-    if set {
-        return 4;
+    match act {
+        Action::Set => 4,
+        Action::Begin => 20,
+        Action::Step => 2,
+        Action::Wake => 1,
+        Action::Close => 3,
     }
-    let begin = act == BEGIN;
-    if begin {
-        return 20;
-    }
-    let step = act == STEP;
-    if step {
-        return 2;
-    }
-    let wake = act == WAKE;
-    if wake {
-        return 1;
-    }
-    let close = act == CLOSE;
-    if close {
-        return 3;
-    }
-    0
 }
 
 fn set_unnamed_zero(a: Fields) -> bool
     ensures { result ≡ set_unnamed_zero a }
 {
-    let nobody = a.thread == 0;
-    let complete = a.choice == 3;
-    let nought = a.value == 0;
-    if nobody {
-        if complete {
-            return nought;
-        }
-        return true;
-    }
-    false
-}
-
-fn object_if_named(a: Fields) -> bool
-    ensures { result ≡ object_if_named a }
-{
-    let park = a.choice == 18;
-    let nought = a.object == 0;
-    if park {
-        return nought;
-    }
-    true
-}
-
-fn value_if_named(a: Fields) -> bool
-    ensures { result ≡ value_if_named a }
-{
-    let wait = a.choice == 10;
-    let nought = a.value == 0;
-    if wait {
-        return true;
-    }
-    nought
+    let complete = matches!(Change::try_from(a.choice), Ok(Change::CompleteOnce));
+    a.thread == 0 && (!complete || a.value == 0)
 }
 
 fn begin_unnamed_zero(a: Fields) -> bool
     ensures { result ≡ begin_unnamed_zero a }
 {
-    let object = object_if_named(a);
-    let value = value_if_named(a);
-    if object {
-        return value;
+    match Call::try_from(a.choice) {
+        Ok(Call::Park) => a.object == 0 && a.value == 0,
+        Ok(Call::CondvarWait) => true,
+        _ => a.value == 0,
     }
-    false
-}
-
-fn both_zero(a: Fields) -> bool
-    ensures { result ≡ both_zero a }
-{
-    let object = a.object == 0;
-    let value = a.value == 0;
-    if object {
-        return value;
-    }
-    false
 }
 
 // Whether the fields that an act does not name are 0.
-fn unnamed_zero(a: Fields) -> bool
+fn unnamed_zero(act: Action, a: Fields) -> bool
+    requires { a.act ≡ act_number act }
     ensures { result ≡ unnamed_zero a }
 {
-    let set = a.act == SET;
-    if set {
-        return set_unnamed_zero(a);
+    match act {
+        Action::Set => set_unnamed_zero(a),
+        Action::Begin => begin_unnamed_zero(a),
+        _ => a.object == 0 && a.value == 0,
     }
-    let begin = a.act == BEGIN;
-    if begin {
-        return begin_unnamed_zero(a);
-    }
-    both_zero(a)
 }
 
 fn set_exists(choice: u8, object: u8) -> bool
     ensures { result ≡ set_exists choice object }
 {
-    let of_lock = choice < 2;
-    if of_lock {
-        return (object as usize) < NAMED_LOCKS;
+    let object = usize::from(object);
+    match Change::try_from(choice) {
+        Ok(Change::ForgottenReads | Change::WriterNotify) => object < NAMED_LOCKS,
+        Ok(Change::Condvar) => object < NAMED_CONDVARS,
+        _ => object < NAMED_ONCES,
     }
-    let of_condvar = choice == 2;
-    if of_condvar {
-        return (object as usize) < NAMED_CONDVARS;
-    }
-    (object as usize) < NAMED_ONCES
 }
 
-fn wait_exists(object: u8, value: u32) -> bool
-    ensures { result ≡ wait_exists object value }
+fn call_exists(choice: u8, object: u8, value: u32) -> bool
+    ensures { result ≡ call_exists choice object value }
 {
-    let there = (object as usize) < NAMED_CONDVARS;
-    if there {
-        return (value as usize) < NAMED_MUTEXES;
+    let object = usize::from(object);
+    match Call::try_from(choice) {
+        Ok(Call::Lock | Call::TryLock | Call::Unlock) => object < NAMED_MUTEXES,
+        Ok(
+            Call::Read
+            | Call::TryRead
+            | Call::ReadUnlock
+            | Call::Write
+            | Call::TryWrite
+            | Call::WriteUnlock
+            | Call::Downgrade,
+        ) => object < NAMED_LOCKS,
+        Ok(Call::CondvarWait) => object < NAMED_CONDVARS && (value as usize) < NAMED_MUTEXES,
+        Ok(Call::NotifyOne | Call::NotifyAll) => object < NAMED_CONDVARS,
+        Ok(
+            Call::OnceCall
+            | Call::OnceCallForce
+            | Call::OnceWait
+            | Call::OnceWaitForce
+            | Call::IsCompleted,
+        ) => object < NAMED_ONCES,
+        Ok(Call::Park) => true,
+        _ => object < THREADS,
     }
-    false
 }
 
-fn call_exists(call: u8, object: u8, value: u32) -> bool
-    ensures { result ≡ call_exists call object value }
-{
-    let of_mutex = call < 3;
-    if of_mutex {
-        return (object as usize) < NAMED_MUTEXES;
-    }
-    let of_lock = call < 10;
-    if of_lock {
-        return (object as usize) < NAMED_LOCKS;
-    }
-    let wait = call == 10;
-    if wait {
-        return wait_exists(object, value);
-    }
-    let of_condvar = call < 13;
-    if of_condvar {
-        return (object as usize) < NAMED_CONDVARS;
-    }
-    let of_once = call < 18;
-    if of_once {
-        return (object as usize) < NAMED_ONCES;
-    }
-    let park = call == 18;
-    if park {
-        return true;
-    }
-    (object as usize) < THREADS
-}
-
-fn object_exists(a: Fields) -> bool
+fn object_exists(act: Action, a: Fields) -> bool
+    requires { a.act ≡ act_number act }
     ensures { result ≡ object_exists a }
 {
-    let set = a.act == SET;
-    if set {
-        return set_exists(a.choice, a.object);
+    match act {
+        Action::Set => set_exists(a.choice, a.object),
+        Action::Begin => call_exists(a.choice, a.object, a.value),
+        _ => true,
     }
-    let begin = a.act == BEGIN;
-    if begin {
-        return call_exists(a.choice, a.object, a.value);
-    }
-    true
 }
 
-fn thread_exists(a: Fields) -> bool
+fn thread_exists(act: Action, a: Fields) -> bool
+    requires { a.act ≡ act_number act }
     ensures { result ≡ thread_exists a }
 {
-    let set = a.act == SET;
-    let there = (a.thread as usize) < THREADS;
-    if set {
-        return true;
-    }
-    there
+    act == Action::Set || usize::from(a.thread) < THREADS
 }
 
-// The refusals that need only the record: act, choice, thread, unnamed fields, object. 0 is none.
-pub fn fields_refusal(a: Fields) -> u8
-    ensures { result ≡ fields_refusal a }
+// The refusals that need only the record: act, choice, thread, unnamed fields, object.
+pub fn fields_refusal(a: Fields) -> Result<(), Refusal>
+    ensures { told result ≡ fields_refusal a }
 {
-    let choices = choices_of(a.act);
-    let known = a.choice < choices;
-    if known {
-        let thread = thread_exists(a);
-        if thread {
-            let zero = unnamed_zero(a);
-            if zero {
-                let object = object_exists(a);
-                if object {
-                    return 0;
-                }
-                return 3;
-            }
-            return 1;
-        }
-        return 2;
+    let Ok(act) = Action::try_from(a.act) else {
+        return Err(Refusal::Unknown);
+    };
+    if choices(act) <= a.choice {
+        return Err(Refusal::Unknown);
     }
-    1
+    if !thread_exists(act, a) {
+        return Err(Refusal::NoSuchThread);
+    }
+    if !unnamed_zero(act, a) {
+        return Err(Refusal::Unknown);
+    }
+    if !object_exists(act, a) {
+        return Err(Refusal::NoSuchObject);
+    }
+    Ok(())
 }
 
 // Where a begin would start.
@@ -254,189 +271,128 @@ pub fn start(a: Fields) -> At
     calls::entry(a.choice, a.object, (a.value % 256) as u8)
 }
 
-fn set_refusal(w: World, choice: u8, value: u32) -> u8
-    ensures { result ≡ set_refusal w choice value }
+fn set_refusal(w: &World, choice: u8, value: u32) -> Result<(), Refusal>
+    ensures { told result ≡ set_refusal w.now choice value }
 {
-    let started = w.started;
-    if started {
-        return 12;
+    if w.started {
+        return Err(Refusal::Started);
     }
-    let reads = choice == 0;
-    let fits = value <= RwLockWord::MAX_READERS;
-    if reads {
-        if fits {
-            return 0;
-        }
-        return 13;
+    match Change::try_from(choice) {
+        Ok(Change::ForgottenReads) if RwLockWord::MAX_READERS < value => Err(Refusal::OutOfRange),
+        _ => Ok(()),
     }
-    0
 }
 
-fn begin_refusal(w: World, a: Fields) -> u8
-    ensures { result ≡ begin_refusal w a }
+fn begin_refusal(w: &World, a: Fields) -> Result<(), Refusal>
+    ensures { told result ≡ begin_refusal w.now a }
 {
-    let t = a.thread;
-    let threads = w.threads;
-    let th = world::thread_at(threads, t);
-    let at = th.at;
-    let idle = calls::is_idle(at);
-    if idle {
-        let p = start(a);
-        let need = calls::needs(p);
-        let locked = w.locked;
-        let written = w.written;
-        let reads = w.reads;
-        let held = world::has_hold(locked, written, reads, t, need);
-        if held {
-            return 0;
-        }
-        return 9;
+    if !calls::is_idle(w.thread(a.thread).at) {
+        return Err(Refusal::InsideCall);
     }
-    4
+    if !w.has_hold(a.thread, calls::needs(start(a))) {
+        return Err(Refusal::NoHold);
+    }
+    Ok(())
 }
 
-// Why a thread with this record may not be stepped; 0 where it may.
-pub fn step_refusal(th: Thread, choice: u8) -> u8
-    ensures { result ≡ step_refusal th choice }
+// Whether a step's choice is that its weak exchange fails.
+fn fails(choice: u8) -> bool
+    ensures { result ≡ eqb choice 1 }
 {
-    let at = th.at;
-    let idle = calls::is_idle(at);
-    if idle {
-        return 5;
-    }
-    let asleep = th.asleep;
-    if asleep {
-        return 6;
-    }
-    let inside = calls::in_closure(at);
-    if inside {
-        return 10;
-    }
-    let fails = choice == 1;
-    let weak = calls::weak_next(at);
-    if fails {
-        if weak {
-            return 0;
-        }
-        return 8;
-    }
-    0
+    choice == 1
 }
 
-fn wake_refusal(th: Thread) -> u8
-    ensures { result ≡ wake_refusal th }
+// Why a thread with this record may not be stepped.
+pub fn step_refusal(th: Thread, choice: u8) -> Result<(), Refusal>
+    ensures { told result ≡ step_refusal th choice }
 {
-    let at = th.at;
-    let idle = calls::is_idle(at);
-    if idle {
-        return 5;
+    if calls::is_idle(th.at) {
+        return Err(Refusal::Idle);
     }
-    let asleep = th.asleep;
-    if asleep {
-        return 0;
+    if th.asleep {
+        return Err(Refusal::Asleep);
     }
-    7
+    if calls::in_closure(th.at) {
+        return Err(Refusal::InsideClosure);
+    }
+    if fails(choice) && !calls::weak_next(th.at) {
+        return Err(Refusal::NoWeakExchange);
+    }
+    Ok(())
 }
 
-fn close_refusal(th: Thread) -> u8
-    ensures { result ≡ close_refusal th }
+fn wake_refusal(th: Thread) -> Result<(), Refusal>
+    ensures { told result ≡ wake_refusal th }
 {
-    let at = th.at;
-    let idle = calls::is_idle(at);
-    if idle {
-        return 5;
+    if calls::is_idle(th.at) {
+        return Err(Refusal::Idle);
     }
-    let asleep = th.asleep;
-    if asleep {
-        return 6;
+    if !th.asleep {
+        return Err(Refusal::Awake);
     }
-    let inside = calls::in_closure(at);
-    if inside {
-        return 0;
-    }
-    11
+    Ok(())
 }
 
-// The refusals that read the world, of an act that has passed those of the fields. 0 is none.
-pub fn world_refusal(w: World, a: Fields) -> u8
-    ensures { result ≡ world_refusal w a }
+fn close_refusal(th: Thread) -> Result<(), Refusal>
+    ensures { told result ≡ close_refusal th }
 {
-    let set = a.act == SET;
-    if set {
-        return set_refusal(w, a.choice, a.value);
+    if calls::is_idle(th.at) {
+        return Err(Refusal::Idle);
     }
-    let begin = a.act == BEGIN;
-    if begin {
-        return begin_refusal(w, a);
+    if th.asleep {
+        return Err(Refusal::Asleep);
     }
-    let threads = w.threads;
-    let th = world::thread_at(threads, a.thread);
-    let step = a.act == STEP;
-    if step {
-        return step_refusal(th, a.choice);
+    if !calls::in_closure(th.at) {
+        return Err(Refusal::OutsideClosure);
     }
-    let wake = a.act == WAKE;
-    if wake {
-        return wake_refusal(th);
-    }
-    close_refusal(th)
+    Ok(())
 }
 
-fn with_word(w: World, k: usize, word: u32) -> World
-    ensures { result ≡ with_word w k word }
+// The refusals that read the world, of an act that has passed those of the fields. A number that is no act's is
+// asked what a close is.
+pub fn world_refusal(w: World, a: Fields) -> Result<(), Refusal>
+    ensures { told result ≡ world_refusal w a }
 {
-    let words = w.words;
-    let after = step::put_word(words, k, word);
+    let th = w.thread(a.thread);
+    match Action::try_from(a.act) {
+        Ok(Action::Set) => set_refusal(&w, a.choice, a.value),
+        Ok(Action::Begin) => begin_refusal(&w, a),
+        Ok(Action::Step) => step_refusal(th, a.choice),
+        Ok(Action::Wake) => wake_refusal(th),
+        _ => close_refusal(th),
+    }
+}
+
+fn with_word(w: World, kind: Kind, object: u8, word: u32) -> World
+    ensures { result ≡ with_word w (word_of kind object) word }
+{
     let mut v = w;
-    v.words = after;
-    v
-}
-
-fn put_forgotten(forgotten: [u32; RWLOCKS], lock: u8, value: u32) -> [u32; RWLOCKS]
-    ensures { result ≡ set forgotten lock value }
-{
-    let mut after = forgotten;
-    let i = lock as usize;
-    if i < RWLOCKS {
-        after[i] = value;
-        return after;
+    if let Some(k) = calls::word_number(kind, object) {
+        v.words[k] = word;
     }
-    after
+    v
 }
 
 fn with_forgotten(w: World, lock: u8, value: u32) -> World
     ensures { result ≡ with_forgotten w lock value }
 {
-    let k = calls::word_number(Kind::RwLock, lock);
-    let words = w.words;
-    let words_after = step::put_word(words, k, value);
-    let forgotten = w.forgotten;
-    let after = put_forgotten(forgotten, lock, value);
-    let mut v = w;
-    v.words = words_after;
-    v.forgotten = after;
+    let mut v = with_word(w, Kind::RwLock, lock, value);
+    let place = usize::from(lock);
+    if place < RWLOCKS {
+        v.forgotten[place] = value;
+    }
     v
 }
 
 fn set_world(w: World, choice: u8, object: u8, value: u32) -> World
     ensures { result ≡ set_world w choice object value }
 {
-    let reads = choice == 0;
-    if reads {
-        return with_forgotten(w, object, value);
+    match Change::try_from(choice) {
+        Ok(Change::ForgottenReads) => with_forgotten(w, object, value),
+        Ok(Change::WriterNotify) => with_word(w, Kind::WriterNotify, object, value),
+        Ok(Change::Condvar) => with_word(w, Kind::Condvar, object, value),
+        _ => with_word(w, Kind::Once, object, OnceWord::COMPLETE),
     }
-    let notify = choice == 1;
-    if notify {
-        let k = calls::word_number(Kind::WriterNotify, object);
-        return with_word(w, k, value);
-    }
-    let condvar = choice == 2;
-    if condvar {
-        let k = calls::word_number(Kind::Condvar, object);
-        return with_word(w, k, value);
-    }
-    let k = calls::word_number(Kind::Once, object);
-    with_word(w, k, OnceWord::COMPLETE)
 }
 
 fn set(w: World, choice: u8, object: u8, value: u32) -> Acted
@@ -448,51 +404,37 @@ fn set(w: World, choice: u8, object: u8, value: u32) -> Acted
     }
 }
 
-fn ending_of(choice: u8) -> Ending
+// How a closure ends, by the choice of a close.
+fn ending(choice: u8) -> Ending
     ensures { result ≡ ending_of choice }
 {
-    let returned = choice == 0;
-    if returned {
-        return Ending::Returned;
+    match choice {
+        0 => Ending::Returned,
+        1 => Ending::Poisoned,
+        _ => Ending::Panicked,
     }
-    let poisoned = choice == 1;
-    if poisoned {
-        return Ending::Poisoned;
-    }
-    Ending::Panicked
 }
 
-// What an accepted act does.
+// What an accepted act does. A number that is no act's does what a close does.
 pub fn accepted(w: World, a: Fields) -> Acted
     ensures { result ≡ accepted_of w a }
 {
-    let is_set = a.act == SET;
-    if is_set {
-        return set(w, a.choice, a.object, a.value);
+    match Action::try_from(a.act) {
+        Ok(Action::Set) => set(w, a.choice, a.object, a.value),
+        Ok(Action::Begin) => step::begin(w, a.thread, start(a)),
+        Ok(Action::Step) => step::step(w, a.thread, fails(a.choice)),
+        Ok(Action::Wake) => step::wake(w, a.thread),
+        _ => step::close(w, a.thread, ending(a.choice)),
     }
-    let begin = a.act == BEGIN;
-    if begin {
-        let at = start(a);
-        return step::begin(w, a.thread, at);
-    }
-    let step = a.act == STEP;
-    let fails = a.choice == 1;
-    if step {
-        return step::step(w, a.thread, fails);
-    }
-    let wake = a.act == WAKE;
-    if wake {
-        return step::wake(w, a.thread);
-    }
-    let ending = ending_of(a.choice);
-    step::close(w, a.thread, ending)
 }
 
-fn refuse(number: u8, w: World) -> Acted
-    ensures { result ≡ refused number w }
+fn refuse(refusal: Refusal, w: World) -> Acted
+    ensures { result ≡ refused (number_of refusal) w }
 {
     Acted {
-        event: Event::Refused { number: number },
+        event: Event::Refused {
+            number: refusal.number(),
+        },
         world: w,
     }
 }
@@ -501,26 +443,18 @@ fn refuse(number: u8, w: World) -> Acted
 pub fn acted(w: World, a: Fields) -> Acted
     ensures { result ≡ acted_of w a }
 {
-    let f = fields_refusal(a);
-    let passes = f == 0;
-    if passes {
-        let n = world_refusal(w, a);
-        let allowed = n == 0;
-        if allowed {
-            return accepted(w, a);
-        }
-        return refuse(n, w);
+    match fields_refusal(a).and_then(|()| world_refusal(w, a)) {
+        Ok(()) => accepted(w, a),
+        Err(refusal) => refuse(refusal, w),
     }
-    refuse(f, w)
 }
 
 // An act on any world.
 pub fn act(w: World, a: Fields) -> Acted
     ensures { result ≡ act_of w a }
 {
-    let sound = sound::sound(w);
-    if sound {
-        return acted(w, a);
+    if !sound::sound(w) {
+        return refuse(Refusal::Unsound, w);
     }
-    refuse(19, w)
+    acted(w, a)
 }

@@ -24,7 +24,7 @@ use Rattle.world.specs.declared.World.{World}
 use Rattle.world.specs.World.{thread_at, sleeps_on, on_word}
 use Rattle.world.specs.Holds.{MUTEXHOLDS, LOCKHOLDS, mutex_slot, lock_slot, holds_mutex, holds_write, reads_of}
 use Rattle.step.specs.Step.{locked_after, written_after, reads_after, own_plan}
-use Rattle.sound.proofs.Loops.{bit_le}
+use Rattle.sound.proofs.Ranges.{bit_le}
 use Rattle.sound.proofs.Holds.{mutex-other, write-other, reads_other}
 use Rattle.kept.specs.Shape.{Shaped}
 use Rattle.kept.proofs.Tests.{decided}

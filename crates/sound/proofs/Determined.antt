@@ -1,11 +1,6 @@
 -- Every contract of this crate determines its result: any two results that it allows are equal. Assumes nothing.
-use Rattle.std.proofs.Common.{ℕ, Bool, List}
 use Rattle.words.specs.Determined.{Determined, determined}
-use Rattle.calls.specs.declared.At.{At}
-use Rattle.calls.specs.declared.Need.{Need}
-use Rattle.calls.specs.Positions.{is_idle}
 use Rattle.world.specs.declared.World.{World}
-use Rattle.world.specs.Holds.{has_hold}
 use Rattle.sound.specs.Sound.{names_exist, values_passed, sleepers_stand, words_in_range, mutexes_agree, locks_agree, needs_held, started_or_set, sound_world}
 
 pub names-exist-determined : (w : World) → Determined (names_exist w)
@@ -26,14 +21,8 @@ mutexes-agree-determined w = determined (mutexes_agree w)
 pub locks-agree-determined : (w : World) → Determined (locks_agree w)
 locks-agree-determined w = determined (locks_agree w)
 
-pub has-hold-determined : (locked : List Bool) (written : List Bool) (reads : List ℕ) (t : ℕ) (need : Need) → Determined (has_hold locked written reads t need)
-has-hold-determined locked written reads t need = determined (has_hold locked written reads t need)
-
 pub needs-held-determined : (w : World) → Determined (needs_held w)
 needs-held-determined w = determined (needs_held w)
-
-pub is-idle-determined : (at : At) → Determined (is_idle at)
-is-idle-determined at = determined (is_idle at)
 
 pub started-or-set-determined : (w : World) → Determined (started_or_set w)
 started-or-set-determined w = determined (started_or_set w)

@@ -5,6 +5,8 @@ use Prim.Native.Nat.{ℕ, zero, suc, ◌+◌, ◌≤◌, ◌<◌}
 use native.Mathlib.Omega.{arith}
 use borrow.Author.Tests.{eqb-true, eqb-false, eq-eqb, ne_eqb}
 use lib.Dec.{eqb}
+use Rattle.std.specs.List.{range_with_len}
+use Rattle.std.proofs.lemmas.List.Sums.{sum_by-cons}
 use Rattle.sound.specs.Ranges.{all_from, sum_from, count_from}
 
 -- all pass: then each does, and the other way round
@@ -32,11 +34,32 @@ all-at f n t e h = all-from f n 0 t e (omega arith) (omega arith)
 pub all-make : (f : ℕ → Bool) (n : ℕ) → ((t : ℕ) → t < n → f t ≡ true) → all_from f n 0 ≡ true
 all-make f n h = all_of f n 0 (λ t a b. h t (omega arith))
 
+-- a sum is its first part and the rest; so is a count, which is a sum of 0 and 1
+pub sum-first : (f : ℕ → ℕ) (n i : ℕ) → sum_from f (suc n) i ≡ f i + sum_from f n (i + 1)
+unfolding sum_from
+sum-first f n i = sum_by-cons f i (range_with_len (i + 1) n)
+
+pub count-sum : (f : ℕ → Bool) (n i : ℕ) → count_from f n i ≡ sum_from (λ (j : ℕ). cond (f j) 1 0) n i
+unfolding count_from sum_from
+count-sum f n i = refl
+
+count-first : (f : ℕ → Bool) (n i : ℕ) → count_from f (suc n) i ≡ cond (f i) 1 0 + count_from f n (i + 1)
+unfolding count_from sum_from
+count-first f n i = sum-first (λ (j : ℕ). cond (f j) 1 0) n i
+
+-- .. and all but its last part and that
+sum_last : (f : ℕ → ℕ) (n i j : ℕ) → j ≡ i + n → sum_from f (suc n) i ≡ sum_from f n i + f j
+unfolding sum_from
+sum_last f zero i j e = let h : j ≡ i = omega arith in rw h
+sum_last f (suc n) i j e = omega (arith, sum-first f (suc n) i, sum-first f n i, sum_last f n (i + 1) j (omega arith))
+
+pub sum-last : (f : ℕ → ℕ) (n : ℕ) → sum_from f (n + 1) 0 ≡ sum_from f n 0 + f n
+sum-last f n = let e : n + 1 ≡ suc n = omega arith in rw e (sum_last f n 0 n (omega arith))
+
 -- a sum says of each number that it adds no more than the sum; equal parts, equal sums; one part changed, the sum changed by as much
 sum-part : (f : ℕ → ℕ) (n i t : ℕ) → i ≤ t → t < i + n → f t ≤ sum_from f n i
-unfolding sum_from
 sum-part f zero i t a b = absurd (omega arith)
-sum-part f (suc n) i t a b = by (eqb t i) refl (λ h. sum-part f n (i + 1) t h (omega arith))
+sum-part f (suc n) i t a b = rw (sum-first f n i) (by (eqb t i) refl (λ h. sum-part f n (i + 1) t h (omega arith)))
   where
     by : (c : Bool) → eqb t i ≡ c → (i + 1 ≤ t → f t ≤ sum_from f n (i + 1)) → f t ≤ f i + sum_from f n (i + 1)
     by true q k = rw (eqb-true t i q) (omega arith)
@@ -47,15 +70,15 @@ unfolding sum_from
 sum_same f g zero i h = refl
 sum_same f g (suc n) i h =
     let k : (t : ℕ) → i + 1 ≤ t → t < i + 1 + n → g t ≡ f t = λ t a b. h t (omega arith) (omega arith) in
-    rw (h i (omega arith) (omega arith), sum_same f g n (i + 1) k)
+    rw (sum-first f n i, sum-first g n i, h i (omega arith) (omega arith), sum_same f g n (i + 1) k)
 
 sum-but :
     (f g : ℕ → ℕ) (n i t : ℕ) → i ≤ t → t < i + n → ((u : ℕ) → i ≤ u → u < i + n → (u ≡ t → ⊥) → g u ≡ f u) →
     sum_from g n i + f t ≡ sum_from f n i + g t
-unfolding sum_from
 sum-but f g zero i t a b h = absurd (omega arith)
 sum-but f g (suc n) i t a b h =
-    by (eqb t i) refl (λ l. sum-but f g n (i + 1) t l (omega arith) (λ u p q. h u (omega arith) (omega arith)))
+    rw (sum-first f n i, sum-first g n i)
+    (by (eqb t i) refl (λ l. sum-but f g n (i + 1) t l (omega arith) (λ u p q. h u (omega arith) (omega arith))))
   where
     by :
         (c : Bool) → eqb t i ≡ c → (i + 1 ≤ t → sum_from g n (i + 1) + f t ≡ sum_from f n (i + 1) + g t) →
@@ -74,7 +97,8 @@ sum-but f g (suc n) i t a b h =
 pub sum-add : (f g : ℕ → ℕ) (n i : ℕ) → sum_from (λ (j : ℕ). f j + g j) n i ≡ sum_from f n i + sum_from g n i
 unfolding sum_from
 sum-add f g zero i = refl
-sum-add f g (suc n) i = omega (arith, sum-add f g n (i + 1))
+sum-add f g (suc n) i =
+    omega (arith, sum-first (λ (j : ℕ). f j + g j) n i, sum-first f n i, sum-first g n i, sum-add f g n (i + 1))
 
 pub sum-at : (f : ℕ → ℕ) (n t : ℕ) → t < n → f t ≤ sum_from f n 0
 sum-at f n t h = sum-part f n 0 t (omega arith) (omega arith)
@@ -98,21 +122,20 @@ sum-two f n t u a b d =
     g : ℕ → ℕ
     g x = cond (eqb x t) 0 (f x)
 
--- so of a count, which is a sum of 0 and 1
-
+-- so of a count
 pub count_at : (f : ℕ → Bool) (n t : ℕ) → t < n → cond (f t) 1 0 ≤ count_from f n 0
-unfolding count_from
+unfolding count_from sum_from
 count_at f n t h = sum-at (λ (j : ℕ). cond (f j) 1 0) n t h
 
 pub count-agree : (f g : ℕ → Bool) (n : ℕ) → ((t : ℕ) → t < n → g t ≡ f t) → count_from g n 0 ≡ count_from f n 0
-unfolding count_from
+unfolding count_from sum_from
 count-agree f g n h =
     sum-agree (λ (j : ℕ). cond (f j) 1 0) (λ (j : ℕ). cond (g j) 1 0) n (λ t k. ap (λ (b : Bool). cond b 1 0) (h t k))
 
 pub count-change :
     (f g : ℕ → Bool) (n t : ℕ) → t < n → ((u : ℕ) → u < n → (u ≡ t → ⊥) → g u ≡ f u) →
     count_from g n 0 + cond (f t) 1 0 ≡ count_from f n 0 + cond (g t) 1 0
-unfolding count_from
+unfolding count_from sum_from
 count-change f g n t k h =
     sum-change (λ (j : ℕ). cond (f j) 1 0) (λ (j : ℕ). cond (g j) 1 0) n t k (λ u l z. ap (λ (b : Bool). cond b 1 0) (h u l z))
 
@@ -120,7 +143,7 @@ count-change f g n t k h =
 count_most : (f : ℕ → Bool) (n i : ℕ) → count_from f n i ≤ n
 unfolding count_from sum_from
 count_most f zero i = omega arith
-count_most f (suc n) i = by (f i) (count_most f n (i + 1))
+count_most f (suc n) i = rw (count-first f n i) (by (f i) (count_most f n (i + 1)))
   where
     by : (c : Bool) → count_from f n (i + 1) ≤ n → cond c 1 0 + count_from f n (i + 1) ≤ suc n
     by true h = omega arith
@@ -141,13 +164,13 @@ unfolding sum_from
 zeros f zero i h = refl
 zeros f (suc n) i h =
     let k : (t : ℕ) → i + 1 ≤ t → t < i + 1 + n → f t ≡ 0 = λ t a b. h t (omega arith) (omega arith) in
-    rw (h i (omega arith) (omega arith), zeros f n (i + 1) k)
+    rw (sum-first f n i, h i (omega arith) (omega arith), zeros f n (i + 1) k)
 
 pub sum-none : (f : ℕ → ℕ) (n : ℕ) → ((t : ℕ) → t < n → f t ≡ 0) → sum_from f n 0 ≡ 0
 sum-none f n h = zeros f n 0 (λ t a b. h t (omega arith))
 
 pub none-counts : (f : ℕ → Bool) (n : ℕ) → ((t : ℕ) → t < n → f t ≡ false) → count_from f n 0 ≡ 0
-unfolding count_from
+unfolding count_from sum_from
 none-counts f n h = sum-none (λ (j : ℕ). cond (f j) 1 0) n (λ t k. ap (λ (b : Bool). cond b 1 0) (h t k))
 
 -- a sum above 0 has a part above 0
@@ -160,7 +183,7 @@ part-from f (suc n) i h = by (f i) refl (part-from f n (i + 1))
         (k : ℕ) → f i ≡ k → (0 < sum_from f n (i + 1) → (t : ℕ) × ((i + 1 ≤ t) × ((t < i + 1 + n) × (0 < f t)))) →
         (t : ℕ) × ((i ≤ t) × ((t < i + suc n) × (0 < f t)))
     by zero e rest =
-        let w = rest (omega arith) in
+        let w = rest (omega (arith, sum-first f n i)) in
         (w.0, (omega (arith, w.1.0), (omega (arith, w.1.1.0), w.1.1.1)))
     by (suc k) e rest = (i, (omega arith, (omega arith, omega arith)))
 
@@ -172,7 +195,7 @@ sum-some f n h =
 some-from : (f : ℕ → Bool) (n i : ℕ) → 0 < count_from f n i → (t : ℕ) × ((i ≤ t) × ((t < i + n) × (f t ≡ true)))
 unfolding count_from sum_from
 some-from f zero i h = absurd (omega arith)
-some-from f (suc n) i h = by (f i) refl h (some-from f n (i + 1))
+some-from f (suc n) i h = by (f i) refl (rw (count-first f n i) at h) (some-from f n (i + 1))
   where
     by :
         (c : Bool) → f i ≡ c → 0 < cond c 1 0 + count_from f n (i + 1) →
@@ -214,3 +237,7 @@ count-one f n t u h a b p q = by (eqb u t) refl
         let none : ◌≡◌ {A = ℕ} (cond (others t) 1 0) 0 = rw own in
         let some : ◌≡◌ {A = ℕ} (cond (others u) 1 0) 1 = rw other in
         absurd (omega (arith, count_at others n u b))
+
+pub bit_le : (b : Bool) → cond b 1 0 ≤ 1
+bit_le true = omega arith
+bit_le false = omega arith

@@ -15,8 +15,7 @@ use Rattle.world.specs.declared.World.{World}
 use Rattle.world.specs.World.{thread_at}
 use Rattle.sound.specs.Ranges.{sum_from, count_from}
 use Rattle.sound.specs.Sound.{is_asleep, asleep_count}
-use Rattle.sound.proofs.Loops.{bit_le}
-use Rattle.sound.proofs.Ranges.{sum-agree, sum-change, sum-none, sum-add}
+use Rattle.sound.proofs.Ranges.{bit_le, sum-agree, sum-change, sum-none, sum-add}
 use Rattle.sound.specs.Clauses.{Sleepers}
 
 -- how often the numbers below n stand in a list, in all
@@ -78,7 +77,7 @@ module _ (w : World) (shaped : length w.sleepers.places ≡ THREADS) where
   asleep-total :
       ((t : ℕ) → t < THREADS → occ t (sleepers w.sleepers) ≡ cond (thread_at w t).asleep 1 0) →
       total (sleepers w.sleepers) THREADS ≡ asleep_count w.threads
-  unfolding asleep_count count_from is_asleep total
+  unfolding asleep_count count_from sum_from is_asleep total
   asleep-total h =
       sum-agree (λ (t : ℕ). cond (thread_at w t).asleep 1 0) (λ (t : ℕ). occ t (sleepers w.sleepers)) THREADS h
 

@@ -1,8 +1,10 @@
 pub mod Atomic
 pub mod Counter
 pub mod Determined
+pub mod Found
 pub mod Mutex
 pub mod Once
 pub mod Panic
 pub mod Parker
 pub mod RwLock
+pub mod Steps

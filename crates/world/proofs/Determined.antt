@@ -36,3 +36,9 @@ reads-of-determined reads lock t = determined (reads_of reads lock t)
 
 pub has-hold-determined : (locked : List Bool) (written : List Bool) (reads : List ℕ) (t : ℕ) (need : Need) → Determined (has_hold locked written reads t need)
 has-hold-determined locked written reads t need = determined (has_hold locked written reads t need)
+
+pub word-determined : (words : List ℕ) (k : ℕ) → Determined (get_or words k 0)
+word-determined words k = determined (get_or words k 0)
+
+pub forgotten-reads-determined : (forgotten : List ℕ) (lock : ℕ) → Determined (get_or forgotten lock 0)
+forgotten-reads-determined forgotten lock = determined (get_or forgotten lock 0)

@@ -1,13 +1,10 @@
-use mathlib.Core.Path.{◌≡◌}
-use Prim.Native.Nat.{◌≤◌, ◌-◌, ◌+◌, ◌*◌, ◌^◌}
-use Rattle.queue.specs.Row.{THREADS}
-use Rattle.sound.specs.Ranges.{sum_from}
+use Rattle.std.proofs.Common.{◌≡◌, ◌+◌, ◌*◌, ◌^◌, ◌<◌}
+use Rattle.std.specs.Prelude.{get_or}
 use Rattle.world.specs.Holds.{reads_of}
+use Rattle.sound.specs.Ranges.{sum_from}
 use Rattle.sound.proofs.reads_held.Given as goal
 
+-- the reads forgotten and those of the threads below t, each less than 2 ^ 32
 abbrev pub invariant-loop-t : goal.invariant-loop-t
 invariant-loop-t l =
-    (l.t ≤ THREADS) × ((l.sum ≤ (l.t + 1) * (2 ^ 32 - 1)) × (l.sum + sum_from (reads_of l.reads l.lock) (THREADS - l.t) l.t ≡ l.first + sum_from (reads_of l.reads l.lock) THREADS 0))
-
-abbrev pub decreases-loop-t : goal.decreases-loop-t
-decreases-loop-t l = THREADS - l.t
+    (l.held ≡ get_or l.w.forgotten l.lock 0 + sum_from (reads_of l.w.reads l.lock) l.t 0) × (l.held < (l.t + 1) * 2 ^ 32)
