@@ -6,6 +6,9 @@ use mathlib.Core.Bool.{Bool, true, false, not, ◌&&◌}
 use lib.Dec.{eqb, ltb}
 use lib.ListN.{get_or, set}
 use borrow.Author.Tests.{eqb-true, ltb-true}
+use Rattle.std.specs.Prelude.{Some}
+use Rattle.std.proofs.lemmas.Option.{cond_some}
+use Rattle.words.specs.Found.{found}
 use Rattle.words.specs.declared.Wake.TheVariants as W
 use Rattle.queue.specs.declared.Row.{Row}
 use Rattle.queue.specs.Row.{THREADS, place_of}
@@ -24,7 +27,6 @@ use Rattle.world.specs.declared.World.{World}
 use Rattle.world.specs.World.{thread_at, word_at, on_word}
 use Rattle.world.specs.Holds.{mutex_slot, lock_slot, has_hold}
 use Rattle.step.specs.declared.Acted.{Acted}
-use Rattle.step.specs.declared.Woken.{Woken}
 use Rattle.step.specs.Step.{own_plan, wakes_of, apply_plan, step_of}
 use Rattle.step.specs.Acts.{recorded, begin_of}
 use Rattle.sound.proofs.Readings.{both}
@@ -32,33 +34,31 @@ use Rattle.acts.specs.declared.Fields.{Fields}
 use Rattle.acts.specs.Refusals.{SET, BEGIN, STEP, start_of, fields_refusal, begin_refusal, step_refusal, world_refusal}
 use Rattle.acts.specs.Acts.{accepted_of, acted_of}
 use Rattle.replay_log.specs.Run.{answer_of}
-use Rattle.replay_log.specs.declared.Change.TheVariants as C
-use Rattle.replay_log.specs.InPlace.{quick_of, quick_begin, told_by, stored_by, IsThere, Does}
+use Rattle.replay_log.specs.declared.InPlace.TheVariants as P
+use Rattle.replay_log.specs.InPlace.{quick_of, quick_begin, told_by, stored_by, Does}
 
 negated : (b : Bool) → not b ≡ true → b ≡ false
 negated true e = sym e
 negated false e = refl
 
 -- what the test of a quick step found
-record Found (sound : Bool) (a : Fields) (th : Thread) (k : ℕ) : Type 0 where
+record Found (sound : Bool) (a : Fields) (th : Thread) : Type 0 where
   sounds : sound ≡ true
   act : eqb a.act STEP ≡ true
   there : ltb a.thread THREADS ≡ true
   fields : eqb (fields_refusal a) 0 ≡ true
   allowed : eqb (step_refusal th a.choice) 0 ≡ true
   calms : may_wake th.at ≡ false
-  word : ltb k WORDS ≡ true
 
-found : (sound : Bool) (a : Fields) (th : Thread) (k : ℕ) → quick_of sound a th k ≡ true → Found sound a th k
+found_of : (sound : Bool) (a : Fields) (th : Thread) → quick_of sound a th ≡ true → Found sound a th
 unfolding quick_of
-found sound a th k e =
-    let e6 : (((((sound && eqb a.act STEP) && ltb a.thread THREADS) && eqb (fields_refusal a) 0) && eqb (step_refusal th a.choice) 0) && not (may_wake th.at) ≡ true) × (ltb k WORDS ≡ true) = both (((((sound && eqb a.act STEP) && ltb a.thread THREADS) && eqb (fields_refusal a) 0) && eqb (step_refusal th a.choice) 0) && not (may_wake th.at)) (ltb k WORDS) e in
-    let e5 : ((((sound && eqb a.act STEP) && ltb a.thread THREADS) && eqb (fields_refusal a) 0) && eqb (step_refusal th a.choice) 0 ≡ true) × (not (may_wake th.at) ≡ true) = both ((((sound && eqb a.act STEP) && ltb a.thread THREADS) && eqb (fields_refusal a) 0) && eqb (step_refusal th a.choice) 0) (not (may_wake th.at)) e6.0 in
+found_of sound a th e =
+    let e5 : ((((sound && eqb a.act STEP) && ltb a.thread THREADS) && eqb (fields_refusal a) 0) && eqb (step_refusal th a.choice) 0 ≡ true) × (not (may_wake th.at) ≡ true) = both ((((sound && eqb a.act STEP) && ltb a.thread THREADS) && eqb (fields_refusal a) 0) && eqb (step_refusal th a.choice) 0) (not (may_wake th.at)) e in
     let e4 : (((sound && eqb a.act STEP) && ltb a.thread THREADS) && eqb (fields_refusal a) 0 ≡ true) × (eqb (step_refusal th a.choice) 0 ≡ true) = both (((sound && eqb a.act STEP) && ltb a.thread THREADS) && eqb (fields_refusal a) 0) (eqb (step_refusal th a.choice) 0) e5.0 in
     let e3 : ((sound && eqb a.act STEP) && ltb a.thread THREADS ≡ true) × (eqb (fields_refusal a) 0 ≡ true) = both ((sound && eqb a.act STEP) && ltb a.thread THREADS) (eqb (fields_refusal a) 0) e4.0 in
     let e2 : (sound && eqb a.act STEP ≡ true) × (ltb a.thread THREADS ≡ true) = both (sound && eqb a.act STEP) (ltb a.thread THREADS) e3.0 in
     let e1 : (sound ≡ true) × (eqb a.act STEP ≡ true) = both (sound) (eqb a.act STEP) e2.0 in
-    record { sounds = e1.0; act = e1.1; there = e2.1; fields = e3.1; allowed = e4.1; calms = negated (may_wake th.at) e5.1; word = e6.1 }
+    record { sounds = e1.0; act = e1.1; there = e2.1; fields = e3.1; allowed = e4.1; calms = negated (may_wake th.at) e5.1 }
 
 module _ (w : World) (a : Fields) (e : eqb a.act STEP ≡ true) where
   is-step : a.act ≡ STEP
@@ -96,19 +96,19 @@ calm-step w t k fails th p eth ek inside ep none = rw (← eth, ← ek, inside, 
 
 -- the stores of a quick step
 pub quick-step :
-    (sound : Bool) (w : World) (a : Fields) (th : Thread) (k : ℕ) (p : Plan) → quick_of sound a th k ≡ true → th ≡ thread_at w a.thread →
-    k ≡ operand_of a.thread th.at → p ≡ decide_of th.at (eqb a.choice 1) (get_or w.words k 0) false →
-    Does sound w a (C.Step k p)
-unfolding told_by stored_by IsThere
+    (sound : Bool) (w : World) (a : Fields) (th : Thread) (k : ℕ) (p : Plan) → quick_of sound a th ≡ true → th ≡ thread_at w a.thread →
+    Some k ≡ found WORDS (operand_of a.thread th.at) → p ≡ decide_of th.at (eqb a.choice 1) (word_at w k) false → Does sound w a (P.Step k p)
+unfolding told_by stored_by
 quick-step sound w a th k p q at ek ep =
-    let f : Found sound a th k = found sound a th k q in
-    let inside : k < WORDS = ltb-true k WORDS f.word in
+    let f : Found sound a th = found_of sound a th q in
+    let h : (ltb (operand_of a.thread th.at) WORDS ≡ true) × (operand_of a.thread th.at ≡ k) = cond_some (ltb (operand_of a.thread th.at) WORDS) (operand_of a.thread th.at) k (sym ek) in
+    let inside : ltb k WORDS ≡ true = ap (λ (n : ℕ). ltb n WORDS) (sym h.1) ∙ h.0 in
     let place : ℕ = place_of (on_word w.threads k) w.sleepers in
-    let plan : p ≡ decide_of th.at (eqb a.choice 1) (get_or w.words k 0) (ltb place THREADS) = ep ∙ quiet th.at (eqb a.choice 1) (get_or w.words k 0) false (ltb place THREADS) f.calms in
-    let none : p.wake ≡ W.None = ap (λ (x : Plan). x.wake) ep ∙ calm th.at (eqb a.choice 1) (get_or w.words k 0) false f.calms in
+    let plan : p ≡ decide_of th.at (eqb a.choice 1) (word_at w k) (ltb place THREADS) = ep ∙ quiet th.at (eqb a.choice 1) (word_at w k) false (ltb place THREADS) f.calms in
+    let none : p.wake ≡ W.None = ap (λ (x : Plan). x.wake) ep ∙ calm th.at (eqb a.choice 1) (word_at w k) false f.calms in
     let allowed : eqb (step_refusal (thread_at w a.thread) a.choice) 0 ≡ true = ap (λ (x : Thread). eqb (step_refusal x a.choice) 0) (sym at) ∙ f.allowed in
-    let does = calm-step w a.thread k (eqb a.choice 1) th p at ek f.word plan none ∙ sym (step-answered sound w a f.sounds f.act f.fields allowed) in
-    record { there = (ltb-true a.thread THREADS f.there, inside); event = ap (λ (d : Acted). d.event) does; world = ap (λ (d : Acted). d.world) does }
+    let does = calm-step w a.thread k (eqb a.choice 1) th p at (sym h.1) inside plan none ∙ sym (step-answered sound w a f.sounds f.act f.fields allowed) in
+    record { there = ltb-true a.thread THREADS f.there; event = ap (λ (d : Acted). d.event) does; world = ap (λ (d : Acted). d.world) does }
 
 -- what the test of a quick begin found
 record Ready (sound : Bool) (a : Fields) (th : Thread) (held : Bool) : Type 0 where
@@ -160,8 +160,8 @@ begin-answered sound w a s e f r h =
 pub begin-step :
     (sound : Bool) (w : World) (a : Fields) (th : Thread) (held : Bool) (at : At) (need : Need) → quick_begin sound a th held ≡ true → th ≡ thread_at w a.thread →
     at ≡ start_of a → need ≡ need_of at → held ≡ has_hold w.locked w.written w.reads a.thread need →
-    Does sound w a (C.Begin at)
-unfolding told_by stored_by begin_of recorded IsThere
+    Does sound w a (P.Begin at)
+unfolding told_by stored_by begin_of recorded
 begin-step sound w a th held at need q own es en eh =
     let f : Ready sound a th held = ready sound a th held q in
     let rests : is_idle (thread_at w a.thread).at ≡ true = ap (λ (x : Thread). is_idle x.at) (sym own) ∙ f.rests in

@@ -8,7 +8,6 @@ use Rattle.calls.specs.declared.Event.TheVariants as E
 use Rattle.calls.specs.declared.Plan.{Plan}
 use Rattle.calls.specs.declared.Thread.{Thread}
 use Rattle.calls.specs.Events.{tell_of}
-use Rattle.calls.specs.Objects.{WORDS}
 use Rattle.calls.specs.Positions.{may_wake, is_idle}
 use Rattle.tally.specs.Tally.{add_event, grants_of}
 use Rattle.lines.specs.Lines.{line_of, laid}
@@ -18,44 +17,38 @@ use Rattle.step.specs.declared.Acted.{Acted}
 use Rattle.step.specs.Step.{own_plan}
 use Rattle.step.specs.Acts.{begin_of}
 use Rattle.acts.specs.declared.Fields.{Fields}
-use Rattle.replay_log.specs.declared.Change.{Change}
-use Rattle.replay_log.specs.declared.Change.TheVariants as C
+use Rattle.replay_log.specs.declared.InPlace.{InPlace}
+use Rattle.replay_log.specs.declared.InPlace.TheVariants as P
 use Rattle.replay_log.specs.declared.Stop.{Stop}
 use Rattle.replay_log.specs.declared.Stop.TheVariants as S
 use Rattle.replay_log.specs.declared.Ran.{Ran}
 use Rattle.replay_log.specs.Run.{fields_of, ending_of, answer_of}
 use Rattle.acts.specs.Refusals.{BEGIN, STEP, fields_refusal, step_refusal}
 
--- a step that is accepted and wakes nobody, of a thread with this record about word k
-unfoldable pub quick_of : Bool → Fields → Thread → ℕ → Bool
-quick_of sound a th k =
-    sound && eqb a.act STEP && ltb a.thread THREADS && eqb (fields_refusal a) 0 && eqb (step_refusal th a.choice) 0
-    && not (may_wake th.at) && ltb k WORDS
+-- a step that is accepted and wakes nobody, of a thread with this record
+unfoldable pub quick_of : Bool → Fields → Thread → Bool
+quick_of sound a th =
+    sound && eqb a.act STEP && ltb a.thread THREADS && eqb (fields_refusal a) 0 && eqb (step_refusal th a.choice) 0 && not (may_wake th.at)
 
 -- a begin that is accepted, of a thread with this record; `held`: whether the hold that the call needs is there
 unfoldable pub quick_begin : Bool → Fields → Thread → Bool → Bool
 quick_begin sound a th held =
     sound && eqb a.act BEGIN && ltb a.thread THREADS && eqb (fields_refusal a) 0 && is_idle th.at && held
 
--- what a change tells, and what it stores where thread t acts
-unfoldable pub told_by : Change → Event
-told_by (C.Step k plan) = tell_of plan.event 0
-told_by (C.Begin at) = E.Begun
+-- what is told of an act that is stored in place, and what it stores where thread t acts
+unfoldable pub told_by : InPlace → Event
+told_by (P.Step k plan) = tell_of plan.event 0
+told_by (P.Begin at) = E.Begun
 
-unfoldable pub stored_by : World → ℕ → Change → World
-stored_by w t (C.Step k plan) = own_plan w t k plan
-stored_by w t (C.Begin at) = (begin_of w t at).world
+unfoldable pub stored_by : World → ℕ → InPlace → World
+stored_by w t (P.Step k plan) = own_plan w t k plan
+stored_by w t (P.Begin at) = (begin_of w t at).world
 
--- the thread and the word that are stored to are there
-unfoldable pub IsThere : ℕ → Change → Type 0
-IsThere t (C.Step k plan) = (t < THREADS) × (k < WORDS)
-IsThere t (C.Begin at) = t < THREADS
-
--- a change is what the act of the record does
-pub record Does (sound : Bool) (w : World) (a : Fields) (change : Change) : Type 0 where
-  pub there : IsThere a.thread change
-  pub event : told_by change ≡ (answer_of sound w a).event
-  pub world : stored_by w a.thread change ≡ (answer_of sound w a).world
+-- what is stored in place is what the act of the record does
+pub record Does (sound : Bool) (w : World) (a : Fields) (act : InPlace) : Type 0 where
+  pub there : a.thread < THREADS
+  pub event : told_by act ≡ (answer_of sound w a).event
+  pub world : stored_by w a.thread act ≡ (answer_of sound w a).world
 
 -- whether an event's line has room behind those of a run
 abbrev pub fits : List ℕ → Ran → Event → Bool

@@ -1,17 +1,18 @@
 // The run of a log: records of ten bytes, one line for each, and a tally. A log can be run in parts, each
 // from the world, the tally and the number that the part before it reached.
-#![tactic(auto, unfolding(step::specs::Acts::begin_of, step::specs::Acts::recorded, step::specs::Step::own_plan, crate::specs::InPlace::Acts, crate::specs::InPlace::IsThere, crate::specs::InPlace::Tells, crate::specs::InPlace::Turns, crate::specs::InPlace::quick_begin, crate::specs::InPlace::quick_of, crate::specs::InPlace::stored_by, crate::specs::InPlace::told_by, crate::specs::Run::answer_of, crate::specs::Run::ending_of, crate::specs::Run::finish_of, crate::specs::Run::if_any, crate::specs::Run::mark_of))]
+#![tactic(auto, unfolding(step::specs::Acts::begin_of, step::specs::Acts::recorded, step::specs::Step::own_plan, crate::specs::InPlace::Acts, crate::specs::InPlace::Tells, crate::specs::InPlace::Turns, crate::specs::InPlace::quick_begin, crate::specs::InPlace::quick_of, crate::specs::InPlace::stored_by, crate::specs::InPlace::told_by, crate::specs::Run::answer_of, crate::specs::Run::ending_of, crate::specs::Run::finish_of, crate::specs::Run::if_any, crate::specs::Run::mark_of))]
 
-ghost use Rattle.std.specs.Prelude.{◌≡◌, ◌-◌, ◌≤◌, min, length, take, drop, IfSome};
+ghost use Rattle.std.specs.Prelude.{◌≡◌, ◌-◌, ◌≤◌, ◌<◌, min, length, take, drop, IfSome};
+ghost use Rattle.queue.specs.Row.{THREADS};
 ghost use Rattle.tally.specs.Tally.{grants_of};
 ghost use Rattle.sound.specs.Sound.{sound_world};
 ghost use Rattle.lines.specs.Lines.{lay_of};
 ghost use Rattle.world.specs.World.{thread_at};
 ghost use Rattle.replay_log.specs.Run.{IsPrefixLen, fields_of, mark_of, if_any, ending_of, answer_of, run_of, state_of, Answers, carried_of, finish_of, finished_line, finished_of};
-ghost use Rattle.replay_log.specs.InPlace.{quick_of, quick_begin, told_by, stored_by, IsThere, Does, Tells, Acts, Turns};
+ghost use Rattle.replay_log.specs.InPlace.{quick_of, quick_begin, told_by, stored_by, Does, Tells, Acts, Turns};
 
-use acts::Fields;
-use calls::{At, Event, Plan, Thread, WORDS};
+use acts::{Action, Fields};
+use calls::{At, Event, Plan, Thread};
 use queue::THREADS;
 use step::Acted;
 use tally::Tally;
@@ -109,18 +110,17 @@ fn answer(sound: bool, w: World, a: Fields) -> Acted
     }
 }
 
-// Whether a record is a step of a thread with this record, about word k, that is accepted and wakes nobody:
-// it is run in place.
-fn is_quick(sound: bool, a: Fields, th: Thread, k: usize) -> bool
-    ensures { result ≡ quick_of sound a th k }
+// Whether a record is a step of a thread with this record that is accepted and wakes nobody: it is run in
+// place, if the thread's word is there.
+fn is_quick(sound: bool, a: Fields, th: Thread) -> bool
+    ensures { result ≡ quick_of sound a th }
 {
     sound
-        && a.act == acts::STEP
+        && a.act == Action::Step as u8
         && (a.thread as usize) < THREADS
-        && acts::fields_refusal(a) == 0
-        && acts::step_refusal(th, a.choice) == 0
+        && acts::fields_refusal(a).is_ok()
+        && acts::step_refusal(th, a.choice).is_ok()
         && !calls::may_wake(th.at)
-        && k < WORDS
 }
 
 // Whether a record is a begin of a thread with this record that is accepted, where the hold that the call
@@ -129,36 +129,35 @@ fn is_begin(sound: bool, a: Fields, th: Thread, held: bool) -> bool
     ensures { result ≡ quick_begin sound a th held }
 {
     sound
-        && a.act == acts::BEGIN
+        && a.act == Action::Begin as u8
         && (a.thread as usize) < THREADS
-        && acts::fields_refusal(a) == 0
+        && acts::fields_refusal(a).is_ok()
         && calls::is_idle(th.at)
         && held
 }
 
 // An act that is stored in place, worked out before its line is laid.
 #[derive(Clone, Copy)]
-enum Change {
+enum InPlace {
     // a step over word k that wakes nobody
     Step { k: usize, plan: Plan },
     Begin { at: At },
 }
 
-impl Change {
-    // What a record changes, if its act is one of these; `th`: the record of its thread.
-    fn of(sound: bool, w: &World, a: Fields, th: Thread) -> Option<Change>
+impl InPlace {
+    // A record's act, if it is one of these; `th`: the record of its thread.
+    fn of(sound: bool, w: &World, a: Fields, th: Thread) -> Option<InPlace>
         requires { th ≡ thread_at w.now a.thread }
-        ensures { IfSome result (λ change. Does sound w.now a change) }
+        ensures { IfSome result (λ act. Does sound w.now a act) }
     {
-        let k = calls::operand(a.thread, th.at);
-        if is_quick(sound, a, th, k) {
-            let plan = calls::decide(th.at, a.choice == 1, w.words[k], false);
-            return Some(Change::Step { k, plan });
+        if is_quick(sound, a, th) {
+            let k = calls::operand(a.thread, th.at)?;
+            let plan = calls::decide(th.at, a.choice == 1, w.word(k), false);
+            return Some(InPlace::Step { k, plan });
         }
         let at = acts::start(a);
-        let held = world::has_hold(w.locked, w.written, w.reads, a.thread, calls::needs(at));
-        if is_begin(sound, a, th, held) {
-            return Some(Change::Begin { at });
+        if is_begin(sound, a, th, w.has_hold(a.thread, calls::needs(at))) {
+            return Some(InPlace::Begin { at });
         }
         None
     }
@@ -167,36 +166,26 @@ impl Change {
         ensures { result ≡ told_by self.now }
     {
         match self {
-            Change::Step { plan, .. } => calls::tell(plan.event, 0),
-            Change::Begin { .. } => Event::Begun,
+            InPlace::Step { plan, .. } => calls::tell(plan.event, 0),
+            InPlace::Begin { .. } => Event::Begun,
         }
     }
 
     // Stores it in a world; thread t is the one that acts.
     fn store(&self, w: &mut World, t: u8)
-        requires { IsThere t self.now }
+        requires { t < THREADS }
         ensures { w.new ≡ stored_by w.old t self.now }
     {
-        let i = t as usize;
         match self {
-            Change::Step { k, plan } => {
-                let m = world::mutex_slot(t, plan.object);
-                let l = world::lock_slot(t, plan.object);
-                w.words[*k] = plan.word;
-                w.locked[m] = step::locked_after(plan.hold, w.locked[m]);
-                w.written[l] = step::written_after(plan.hold, w.written[l]);
-                w.reads[l] = step::reads_after(plan.hold, w.reads[l]);
-                w.threads[i] = plan.next;
-                w.sleepers = step::slept_row(plan.next.asleep, w.sleepers, t);
-            }
-            Change::Begin { at } => {
-                w.threads[i] = Thread {
+            InPlace::Step { k, plan } => step::store(w, t, *k, *plan),
+            InPlace::Begin { at } => {
+                w.threads[t as usize] = Thread {
                     at: *at,
                     asleep: false,
                 };
+                w.started = true;
             }
         }
-        w.started = true;
     }
 }
 
@@ -229,12 +218,12 @@ impl Ran {
     fn quick_act(&mut self, sound: bool, a: Fields, out: &mut [u8]) -> Result<(), Stop>
         ensures { Acts a (answer_of sound self.old.world a) self.old self.new out.old out.new result }
     {
-        let th = world::thread_at(self.world.threads, a.thread);
+        let th = self.world.thread(a.thread);
         let grant = tally::grants(th.at);
-        match Change::of(sound, &self.world, a, th) {
-            Some(change) => {
-                self.tell(change.event(), grant, out)?;
-                change.store(&mut self.world, a.thread);
+        match InPlace::of(sound, &self.world, a, th) {
+            Some(act) => {
+                self.tell(act.event(), grant, out)?;
+                act.store(&mut self.world, a.thread);
                 Ok(())
             }
             None => self.act(sound, a, grant, out),

@@ -5,7 +5,7 @@
 ghost use Rattle.std.specs.Prelude.{◌≡◌};
 ghost use Rattle.tally.specs.Tally.{bump_of, no_tally, add_event, grants_of};
 
-use calls::{At, Event};
+use calls::{At, Call, Event};
 
 #[derive(Clone, Copy)]
 pub struct Tally {
@@ -86,5 +86,8 @@ impl Tally {
 pub fn grants(at: At) -> bool
     ensures { result ≡ grants_of at }
 {
-    matches!(calls::call_of(at), 0 | 1 | 3 | 4 | 6 | 7)
+    matches!(
+        calls::call_of(at),
+        Some(Call::Lock | Call::TryLock | Call::Read | Call::TryRead | Call::Write | Call::TryWrite)
+    )
 }

@@ -18,6 +18,6 @@ returns-in_err-tell-in-Some c =
 pub returns-in_ok-tell-in-Some : goal.returns-in_ok-tell-in-Some
 returns-in_ok-tell-in-Some c =
     acts_told c.args.a _ c.args.self.now _ c.args.out.now _ _ _ _ (c.event.ensures ∙ c.in-Some.ensures.event)
-    (c.grants-grant.ensures ∙ ap (λ (th : Thread). grants_of th.at) c.thread_at-th.ensures)
-    (c.store.ensures ∙ (ap (λ (w : World). stored_by w c.args.a.thread c.in-Some.change) (told_world _ _ _ _ _ _ c.in_ok-tell-in-Some.ensures) ∙ c.in-Some.ensures.world))
+    (c.grants-grant.ensures ∙ ap (λ (th : Thread). grants_of th.at) c.thread-th.ensures)
+    (c.store.ensures ∙ (ap (λ (w : World). stored_by w c.args.a.thread c.in-Some.act) (told_world _ _ _ _ _ _ c.in_ok-tell-in-Some.ensures) ∙ c.in-Some.ensures.world))
     c.in_ok-tell-in-Some.ensures
