@@ -2,6 +2,5 @@ pub mod Determined
 pub mod Digits
 pub mod Laid
 pub mod Line
-pub mod Loops
 pub mod TallyLine
 pub mod Transcript

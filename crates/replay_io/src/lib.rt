@@ -2,7 +2,7 @@
 // written to the other. Where reading or writing fails it says so on standard error and ends, with no tally.
 #![tactic(auto)]
 
-ghost use Rattle.std.specs.Prelude.{◌≤◌, length, IfOk};
+ghost use Rattle.std.specs.Prelude.{◌≤◌, IfOk};
 
 use replay_log::Stop;
 use std::fmt;
@@ -41,120 +41,94 @@ enum Next {
     Finish,
 }
 
-#[derive(Drop)]
-struct Turn {
-    world: World,
-    tally: Tally,
-    number: u32,
-    // bytes of a record that the input's next part goes on with
-    have: usize,
-    next: Next,
-}
-
-// One read behind the bytes that were carried over: how many bytes there are then. A read that a signal
-// interrupts has failed.
-fn fill<R: Read>(input: &mut R, buf: &mut [u8], have: usize) -> Result<usize, Failure>
-    requires { (have ≤ 24000) × (65536 ≤ length buf.old) }
-    ensures { IfOk result (λ end. (have ≤ end) × (end ≤ 24000)) }
-{
-    let n = input
-        .read(&mut buf[have..CHUNK])
-        .map_err(|_| Failure::Read)?;
-    Ok(have + n)
-}
-
 // Writes all of the lines.
 fn put<W: Write>(output: &mut W, lines: &[u8]) -> Result<(), Failure> {
     output.write_all(lines).map_err(|_| Failure::Write)
 }
 
-// Where a run leads: on to the next read, or to the end. A run of CHUNK bytes has room for its lines.
-fn led(stop: Stop) -> Result<Next, Failure> {
-    match stop {
-        Stop::Short => Ok(Next::Read),
-        Stop::Room => Err(Failure::Room),
-        Stop::Ended { number: _ } => Ok(Next::Finish),
-    }
-}
-
-// The bytes that are carried over: none behind a refusal that ended the run.
-fn kept(stop: Stop, left: usize) -> usize
-    ensures { result ≤ left }
-{
-    match stop {
-        Stop::Short => left,
-        Stop::Room => left,
-        Stop::Ended { number: _ } => 0,
-    }
-}
-
-// One read, the run over what is whole in the buffer, and its lines written.
-fn take_turn<R: Read, W: Write>(
-    input: &mut R,
-    output: &mut W,
-    w: World,
-    t: Tally,
+// Where a replay stands between two reads.
+#[derive(Drop)]
+struct Session {
+    world: World,
+    tally: Tally,
     number: u32,
+    // the records that are read; so many bytes at its start are of one that the input's next part goes on with
+    buf: [u8; BUFFER],
     have: usize,
-    buf: &mut [u8],
-    out: &mut [u8],
-) -> Result<Turn, Failure>
-    requires { (have ≤ 24000) × ((65536 ≤ length buf.old) × (65536 ≤ length out.old)) }
-    ensures { IfOk result (λ turn. turn.have ≤ 24000) }
-{
-    let end = fill(input, buf, have)?;
-    if end == have {
-        return Ok(Turn {
-            world: w,
-            tally: t,
-            number: number,
-            have: have,
-            next: Next::Finish,
-        });
-    }
-    let ran = replay_log::feed(w, t, number, buf, end, out);
-    put(output, &out[..ran.count])?;
-    let next = led(ran.stop)?;
-    Ok(Turn {
-        world: ran.world,
-        tally: ran.tally,
-        number: ran.number,
-        have: kept(ran.stop, end - ran.used),
-        next: next,
-    })
+    // their lines
+    out: [u8; BUFFER],
 }
 
-// The last lines: a refusal for bytes that are left, and the tally.
-fn finish<W: Write>(
-    output: &mut W,
-    t: Tally,
-    number: u32,
-    left: usize,
-    out: &mut [u8],
-) -> Result<(), Failure> {
-    let finished = replay_log::put_finish(t, number, left, out);
-    let end = lines::put_tally(out, finished.count, finished.tally);
-    let count = replay_log::within(end, out);
-    put(output, &out[..count])
+impl Session {
+    // From the fresh world, with nothing read.
+    fn new() -> Session
+        ensures { result.have ≤ 24000 }
+    {
+        Session {
+            world: world::fresh(),
+            tally: Tally::nothing(),
+            number: 0,
+            buf: [0; BUFFER],
+            have: 0,
+            out: [0; BUFFER],
+        }
+    }
+
+    // One read behind the bytes that were carried over, the run over what is whole in the buffer, and its lines
+    // written. A read that a signal interrupts has failed.
+    fn turn<R: Read, W: Write>(&mut self, input: &mut R, output: &mut W) -> Result<Next, Failure>
+        requires { self.old.have ≤ 24000 }
+        ensures { IfOk result (λ next. self.new.have ≤ 24000) }
+    {
+        let n = input
+            .read(&mut self.buf[self.have..CHUNK])
+            .map_err(|_| Failure::Read)?;
+        if n == 0 {
+            return Ok(Next::Finish);
+        }
+        let end = self.have + n;
+        let ran = replay_log::feed(
+            self.world,
+            self.tally,
+            self.number,
+            &mut self.buf,
+            end,
+            &mut self.out,
+        );
+        put(output, &self.out[..ran.count])?;
+        self.world = ran.world;
+        self.tally = ran.tally;
+        self.number = ran.number;
+        match ran.stop {
+            Stop::Short => {
+                self.have = end - ran.used;
+                Ok(Next::Read)
+            }
+            // a run of CHUNK bytes has room for its lines
+            Stop::Room => Err(Failure::Room),
+            // behind a refusal that ends the run no bytes are left
+            Stop::Ended { .. } => {
+                self.have = 0;
+                Ok(Next::Finish)
+            }
+        }
+    }
+
+    // The last lines: a refusal for bytes that are left, and the tally.
+    fn finish<W: Write>(&mut self, output: &mut W) -> Result<(), Failure> {
+        let finished = replay_log::put_finish(self.tally, self.number, self.have, &mut self.out);
+        let end = lines::put_tally(&mut self.out, finished.count, finished.tally);
+        let count = replay_log::within(end, &self.out);
+        put(output, &self.out[..count])
+    }
 }
 
 // Turn after turn from the fresh world, and the last lines.
 fn take_turns<R: Read, W: Write>(input: &mut R, output: &mut W) -> Result<(), Failure> {
-    let mut buf = [0u8; BUFFER];
-    let mut out = [0u8; BUFFER];
-    let mut w = world::fresh();
-    let mut t = tally::nothing();
-    let mut number: u32 = 0;
-    let mut have: usize = 0;
+    let mut session = Session::new();
     for _ in 0..u64::MAX {
-        let turn = take_turn(input, output, w, t, number, have, &mut buf, &mut out)?;
-        w = turn.world;
-        t = turn.tally;
-        number = turn.number;
-        have = turn.have;
-        match turn.next {
-            Next::Read => {}
-            Next::Finish => return finish(output, t, number, have, &mut out),
+        if let Next::Finish = session.turn(input, output)? {
+            return session.finish(output);
         }
     }
     Ok(())

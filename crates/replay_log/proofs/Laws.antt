@@ -1,268 +1,331 @@
 -- The loop of `run`: what is left of the run, behind what was written, is the whole run. Assumes nothing.
-use Prim.Native.Nat.{ℕ, ◌+◌, ◌-◌, ◌≤◌, ◌<◌, min}
-use native.Mathlib.Nat.{add_comm, add-zero, sub-zero, zero-add}
-use native.Mathlib.Numerals.{add-one}
+use Prim.Native.Nat.{ℕ, zero, suc, ◌+◌, ◌-◌, ◌≤◌, ◌<◌, min}
+use native.Mathlib.Nat.{add-zero, sub-zero, zero-add}
 use native.Mathlib.Omega.{arith}
 use mathlib.Core.Path.{◌≡◌, refl, sym, ap, subst, ◌∙◌}
-use mathlib.Core.Bool.{Bool, true, false, ◌&&◌}
+use mathlib.Core.Bool.{Bool, true, false, cond}
 use mathlib.Core.List.{List, [], ◌∷◌, ◌++◌, append_assoc}
-use lib.Dec.{eqb, leb}
-use lib.ListN.{length, take, drop, set, get_or, length-append, length-drop, length-take, length-set, take-append-drop}
-use lib.Seq.{drop-drop, drop-set-lt, get_or-drop, length-take-le, take_all, take-suc, take-suc-set}
-use borrow.Author.Tests.{leb-true, leb-false, le-leb, lt-leb, ne_eqb}
+use lib.Dec.{eqb, leb, ltb}
+use lib.ListN.{length, take, drop, length-append, length-drop, length-take}
+use lib.Seq.{drop-drop, length-take-le, take_all}
+use borrow.Author.Tests.{leb-true, leb-false, le-leb, lt-leb, lt-ltb, ltb-true, eqb-true, ne_eqb}
+use Rattle.std.specs.Prelude.{Option, Some, None, Result, Ok, Err}
+use Rattle.std.specs.List.{copy_within}
+use Rattle.std.proofs.lemmas.Option.{none-some, cond_some}
+use Rattle.calls.specs.declared.Event.{Event}
 use Rattle.calls.specs.declared.Event.TheVariants as E
-use Rattle.calls.specs.Plans.{idle}
 use Rattle.tally.specs.declared.Tally.{Tally}
 use Rattle.tally.specs.Tally.{add_event, grants_of}
 use Rattle.lines.specs.Lines.{line_of, laid, lay_of, end_of}
 use Rattle.lines.proofs.Laid.{laid-take, laid-drop, laid-length, laid_none, lay-fits, lay-not, end_fits, end-not}
 use Rattle.lines.proofs.Line.{line-some}
+use Rattle.world.specs.declared.World.{World}
+use Rattle.world.specs.World.{thread_at}
 use Rattle.step.specs.declared.Acted.{Acted}
 use Rattle.acts.specs.declared.Fields.{Fields}
+use Rattle.replay_log.specs.declared.Stop.{Stop}
 use Rattle.replay_log.specs.declared.Stop.TheVariants as S
 use Rattle.replay_log.specs.declared.Ran.{Ran}
 use Rattle.replay_log.specs.declared.Finished.{Finished}
-use Rattle.replay_log.specs.Run.{LAST, State, Run, Answers, stopped, prefixed, fields_of, answer_of, noted, ending_of, last_line, last_state, turn_of, record_line, record_state, run_of, state_of, ran_of, finish_of, finished_tally, finished_line, finished_of, carried_of}
-use Rattle.replay_log.proofs.Unroll.{prefixed-none, prefixed-twice, runs-out, unroll, turn-goes, turn-full, turn-ends, turn-ends-full}
+use Rattle.replay_log.specs.Run.{LAST, State, Run, Answers, answer_of, if_any, stopped, prefixed, fields_of, noted, ending_of, last_line, last_state, turn_of, record_line, record_state, run_of, state_of, ran_of, finish_of, finished_tally, finished_line, finished_of, moved_of, carried_of}
+use Rattle.replay_log.specs.InPlace.{fits, told, Told, NoRoom, Tells, acted_on, Acted_on, Acts, answer_in, next_event, numbered_on, Went, Ends, Turns}
+use Rattle.replay_log.proofs.Unroll.{prefixed-none, prefixed-twice, runs-out, unroll-record, turn-goes, turn-full, turn-ends, turn-ends-full}
 
 -- a part from a place to the end, as the code takes it
 pub part : (l : List ℕ) (a : ℕ) → take (length l - a) (drop a l) ≡ drop a l
 part l a = take_all (length l - a) (drop a l) (omega (arith, length-drop a l))
 
-pub drop_more : (a b : List ℕ) (n k : ℕ) → drop n a ≡ drop n b → drop (n + k) a ≡ drop (n + k) b
+drop_more : (a b : List ℕ) (n k : ℕ) → drop n a ≡ drop n b → drop (n + k) a ≡ drop (n + k) b
 drop_more a b n k h = sym (drop-drop k n a) ∙ (ap (drop k) h ∙ drop-drop k n b)
 
--- a line has room exactly where laying it led on
-module _ (out line : List ℕ) (end : ℕ) {next : ℕ} (some : 1 ≤ length line) (within : end ≤ length out) (e : next ≡ end_of (length out) end line) where
-  pub no_room : next ≡ end → leb (end + length line) (length out) ≡ false
-  no_room same = by (leb (end + length line) (length out)) refl
+-- laying a line leads on exactly where it has room
+module _ (out line : List ℕ) (at : ℕ) {next : ℕ} (some : 1 ≤ length line) (e : next ≡ end_of (length out) at line) where
+  no_room : next ≡ at → leb (at + length line) (length out) ≡ false
+  no_room same = by (leb (at + length line) (length out)) refl
     where
-      by : (b : Bool) → leb (end + length line) (length out) ≡ b → leb (end + length line) (length out) ≡ false
-      by true q = let bad : end + length line ≡ end = sym (end_fits out end line q) ∙ (sym e ∙ same) in absurd (omega arith)
+      by : (b : Bool) → leb (at + length line) (length out) ≡ b → leb (at + length line) (length out) ≡ false
+      by true q = let bad : at + length line ≡ at = sym (end_fits out at line q) ∙ (sym e ∙ same) in absurd (omega arith)
       by false q = q
 
-  pub has_room : (next ≡ end → ⊥) → leb (end + length line) (length out) ≡ true
-  has_room other = by (leb (end + length line) (length out)) refl
+  has_room : (next ≡ at → ⊥) → leb (at + length line) (length out) ≡ true
+  has_room other = by (leb (at + length line) (length out)) refl
     where
-      by : (b : Bool) → leb (end + length line) (length out) ≡ b → leb (end + length line) (length out) ≡ true
+      by : (b : Bool) → leb (at + length line) (length out) ≡ b → leb (at + length line) (length out) ≡ true
       by true q = q
-      by false q = absurd (other (e ∙ end-not out end line q))
+      by false q = absurd (other (e ∙ end-not out at line q))
 
-  pub room-left : leb (end + length line) (length out) ≡ true → leb (length line) (length out - end) ≡ true
-  room-left q = le-leb (length line) (length out - end) (let h : end + length line ≤ length out = leb-true _ _ q in omega arith)
+-- an event's line, laid or not
+module _ (e : Event) (grant : Bool) (r : Ran) (out out' : List ℕ) {next : ℕ} (en : next ≡ end_of (length out) r.count (line_of r.number e)) (eo : out' ≡ lay_of out r.count (line_of r.number e)) where
+  pub not-told : next ≡ r.count → NoRoom e r r out out'
+  not-told same =
+      let q = no_room out (line_of r.number e) r.count (line-some r.number e) en same in
+      record { room = q; same = refl; keeps = eo ∙ lay-not out r.count (line_of r.number e) q }
 
-  pub room-none : leb (end + length line) (length out) ≡ false → leb (length line) (length out - end) ≡ false
-  room-none q = lt-leb (length line) (length out - end) (let h : length out < end + length line = leb-false _ _ q in omega arith)
+  pub is-told : (next ≡ r.count → ⊥) → (tally : Tally) → tally ≡ add_event r.tally e grant →
+      Told e grant r (record { world = r.world; tally = tally; number = r.number; used = r.used; count = next; stop = r.stop }) out out'
+  unfolding told
+  is-told other tally et =
+      let q = has_room out (line_of r.number e) r.count (line-some r.number e) en other in
+      record {
+        room = q;
+        after = rw (et, en, end_fits out r.count (line_of r.number e) q) refl;
+        lays = eo ∙ lay-fits out r.count (line_of r.number e) q;
+      }
 
--- the state after a record, from what the code found
-recorded :
-    (sound : Bool) (l : List ℕ) (s : State) (a : Fields) (r : Acted) (u : Tally) → a ≡ fields_of l → r ≡ answer_of sound s.world a →
-    u ≡ add_event s.tally r.event (grants_of (get_or s.world.threads a.thread idle).at) →
-    record_state sound l s ≡ state_of r.world u (s.number + 1)
-unfolding noted
-recorded sound l s a r u ea er eu =
-    ap (λ (b : Fields). noted s b (answer_of sound s.world b)) (sym ea)
-    ∙ (ap (noted s a) (sym er) ∙ ap (λ (x : Tally). state_of r.world x (s.number + 1)) (sym eu))
+-- no refusal, or one
+pub if-none : (n : ℕ) → None ≡ if_any n → n ≡ 0
+unfolding if_any
+if-none zero e = refl
+if-none (suc n) e = absurd (none-some (suc n) (e ∙ rw (lt-ltb 0 (suc n) (omega arith)) refl))
 
--- what the loop's variables say of the run
-pub record Inv (sound : Bool) (log out₀ : List ℕ) (s₀ : State) (out : List ℕ) (s : State) (at end : ℕ) : Type 0 where
-  pub within : at ≤ length log
-  pub room : end ≤ length out
-  pub same : length out ≡ length out₀
-  pub kept : drop end out ≡ drop end out₀
-  pub run : prefixed (take end out) at (run_of sound (length out - end) (drop at log) s) ≡ run_of sound (length out₀) log s₀
-
-pub inv-start : (sound : Bool) (log out₀ : List ℕ) (s₀ : State) → Inv sound log out₀ s₀ out₀ s₀ 0 0
-inv-start sound log out₀ s₀ = record {
-  within = omega arith;
-  room = omega arith;
-  same = refl;
-  kept = refl;
-  run = ap (λ (room : ℕ). prefixed [] 0 (run_of sound room log s₀)) (sub-zero (length out₀)) ∙ prefixed-none (run_of sound (length out₀) log s₀);
-}
-
--- .. for the soundness that the code found
-pub retold :
-    {b c : Bool} (log out₀ out' : List ℕ) (s₀ : State) (r : Ran) → b ≡ c → Answers (run_of b (length out₀) log s₀) (length log) r out₀ out' →
-    Answers (run_of c (length out₀) log s₀) (length log) r out₀ out'
-retold log out₀ out' s₀ r e h = subst (λ (d : Bool). Answers (run_of d (length out₀) log s₀) (length log) r out₀ out') e h
+pub if-some : (n number : ℕ) → Some number ≡ if_any n → (eqb number 0 ≡ false) × (number ≡ n)
+unfolding if_any
+if-some n number e =
+    let h : (ltb 0 n ≡ true) × (n ≡ number) = cond_some (ltb 0 n) n number (sym e) in
+    let some : 0 < n = ltb-true 0 n h.0 in
+    let z : number ≡ 0 → ⊥ = λ i. omega (arith, h.1, i) in (ne_eqb number 0 z, sym h.1)
 
 -- a record that has a number leaves one for the next
 pub numbered : (number : ℕ) (l : List ℕ) → ending_of number l ≡ 0 → number ≡ LAST → ⊥
 unfolding ending_of
 numbered number l e h = let bad : ◌≡◌ {A = ℕ} 22 0 = sym (rw h refl) ∙ e in omega arith
 
-module _ (sound : Bool) (log out₀ : List ℕ) (s₀ : State) (out : List ℕ) (s : State) (at end : ℕ) (inv : Inv sound log out₀ s₀ out s at end) where
+-- an act of a record, and a turn, where the line has no room
+module _ (r r' : Ran) (out out' : List ℕ) (e : Event) {res : Result (Unit {0}) Stop} (x : Stop) (is : res ≡ Err x) where
+  pub not-acted : (a : Fields) (d : Acted) (grant : Bool) → e ≡ d.event → Tells e grant r r' out out' (Err x) → Acts a d r r' out out' res
+  unfolding Tells Acts
+  not-acted a d grant ee t = rw is (by x t)
+    where
+      by : (y : Stop) → Tells e grant r r' out out' (Err y) → Acts a d r r' out out' (Err y)
+      by S.Room t = rw (← ee) t
+      by S.Short t = absurd t
+      by (S.Ended number) t = absurd t
+
+  pub not-ended : (sound : Bool) (l : List ℕ) (grant : Bool) → e ≡ next_event sound l r → Tells e grant r r' out out' (Err x) → Turns sound l r r' out out' res
+  unfolding Tells Turns
+  not-ended sound l grant ee t = rw is (by x t)
+    where
+      by : (y : Stop) → Tells e grant r r' out out' (Err y) → Turns sound l r r' out out' (Err y)
+      by S.Room t = rw (← ee) t
+      by S.Short t = absurd t
+      by (S.Ended number) t = absurd t
+
+-- an act of a record, told and stored
+pub acts_told :
+    (a : Fields) (d : Acted) (r r' : Ran) (out out' : List ℕ) (e : Event) (grant : Bool) {done : Unit {0}} (w : World) → e ≡ d.event →
+    grant ≡ grants_of (thread_at r.world a.thread).at → w ≡ d.world → Tells e grant r r' out out' (Ok done) →
+    Acts a d r (record { world = w; tally = r'.tally; number = r'.number; used = r'.used; count = r'.count; stop = r'.stop }) out out' (Ok tt)
+unfolding Tells Acts told acted_on
+acts_told a d r r' out out' e grant w ee eg ew t = record {
+  room = ap (fits out r) (sym ee) ∙ t.room;
+  after = rw (t.after, ew, ee, eg) refl;
+  lays = t.lays ∙ ap (λ (x : Event). laid out r.count (line_of r.number x)) ee;
+}
+
+-- telling an event leaves the world
+pub told_world : (e : Event) (grant : Bool) (r r' : Ran) (out out' : List ℕ) {done : Unit {0}} → Tells e grant r r' out out' (Ok done) → r'.world ≡ r.world
+unfolding Tells told
+told_world e grant r r' out out' t = ap (λ (x : Ran). x.world) t.after
+
+-- doing an act leaves the number
+pub acted_number : (a : Fields) (d : Acted) (r r' : Ran) (out out' : List ℕ) {done : Unit {0}} → Acts a d r r' out out' (Ok done) → r'.number ≡ r.number
+unfolding Acts acted_on
+acted_number a d r r' out out' t = ap (λ (x : Ran). x.number) t.after
+
+-- the refusal that ends the run is what is told next
+pub refusal-next : (sound : Bool) (l : List ℕ) (r : Ran) (number : ℕ) → Some number ≡ if_any (ending_of r.number l) → E.Refused number ≡ next_event sound l r
+unfolding next_event
+refusal-next sound l r number e = let h = if-some (ending_of r.number l) number e in rw (← h.1, h.0) refl
+
+-- a turn over a record that has an act
+module _ (sound : Bool) (l : List ℕ) (r r' : Ran) (out out' : List ℕ) (a : Fields) (z : ending_of r.number l ≡ 0) (ea : a ≡ fields_of l) where
+  pub turn-acts :
+      {done : Unit {0}} → Acts a (answer_of sound r.world a) r r' out out' (Ok done) →
+      Turns sound l r (record { world = r'.world; tally = r'.tally; number = r'.number + 1; used = r'.used; count = r'.count; stop = r'.stop }) out out' (Ok tt)
+  unfolding Acts Turns numbered_on
+  turn-acts t = by (subst (λ (x : Fields). Acted_on x (answer_of sound r.world x) r r' out out') ea t)
+    where
+      by : Acted_on (fields_of l) (answer_in sound l r) r r' out out' → Went sound l r (numbered_on r') out out'
+      by t = record { goes = z; room = t.room; after = ap numbered_on t.after; lays = t.lays }
+
+  pub turn-has-no-room : {res : Result (Unit {0}) Stop} (x : Stop) → res ≡ Err x → Acts a (answer_of sound r.world a) r r' out out' (Err x) → Turns sound l r r' out out' res
+  unfolding Acts Turns next_event
+  turn-has-no-room x is t = rw is (by x (subst (λ (b : Fields). Acts b (answer_of sound r.world b) r r' out out' (Err x)) ea t))
+    where
+      by : (y : Stop) → Acts (fields_of l) (answer_in sound l r) r r' out out' (Err y) → Turns sound l r r' out out' (Err y)
+      by S.Room t = rw z t
+      by S.Short t = absurd t
+      by (S.Ended number) t = absurd t
+
+-- room for so many bytes behind a place
+shifted : (at n len : ℕ) → at ≤ len → leb n (len - at) ≡ leb (at + n) len
+shifted at n len h = by (leb (at + n) len) refl
+  where
+    by : (b : Bool) → leb (at + n) len ≡ b → leb n (len - at) ≡ leb (at + n) len
+    by true q = le-leb n (len - at) (let r : at + n ≤ len = leb-true _ _ q in omega arith) ∙ sym q
+    by false q = lt-leb n (len - at) (let r : len < at + n = leb-false _ _ q in omega arith) ∙ sym q
+
+-- what the loop's variables say of the run: `rest` is still to be run
+pub record Inv (sound : Bool) (log out₀ : List ℕ) (s₀ : State) (out : List ℕ) (r : Ran) (rest : List ℕ) : Type 0 where
+  pub stop : r.stop ≡ S.Short
+  pub within : r.used + length rest ≡ length log
+  pub room : r.count ≤ length out
+  pub same : length out ≡ length out₀
+  pub kept : drop r.count out ≡ drop r.count out₀
+  pub run : prefixed (take r.count out) r.used (run_of sound (length out - r.count) rest (state_of r.world r.tally r.number)) ≡ run_of sound (length out₀) log s₀
+
+pub inv-start :
+    (sound : Bool) (log out₀ : List ℕ) (w : World) (t : Tally) (number : ℕ) →
+    Inv sound log out₀ (state_of w t number) out₀ (record { world = w; tally = t; number = number; used = 0; count = 0; stop = S.Short }) log
+inv-start sound log out₀ w t number = record {
+  stop = refl;
+  within = zero-add (length log);
+  room = omega arith;
+  same = refl;
+  kept = refl;
+  run = ap (λ (room : ℕ). prefixed [] 0 (run_of sound room log (state_of w t number))) (sub-zero (length out₀)) ∙ prefixed-none (run_of sound (length out₀) log (state_of w t number));
+}
+
+module _ (sound : Bool) (log out₀ : List ℕ) (s₀ : State) (out : List ℕ) (r : Ran) (rest : List ℕ) (inv : Inv sound log out₀ s₀ out r rest) where
+  abbrev s : State
+  s = state_of r.world r.tally r.number
+
+  abbrev room : ℕ
+  room = length out - r.count
+
   -- the run ends here, with a last part of lines
-  module _ (last : Run) (out' : List ℕ) (e : run_of sound (length out - end) (drop at log) s ≡ last) (fits : end + length last.lines ≤ length out) (wrote : out' ≡ laid out end last.lines) (none : last.used ≡ 0) where
-    whole : run_of sound (length out₀) log s₀ ≡ prefixed (take end out) at last
-    whole = sym inv.run ∙ ap (prefixed (take end out) at) e
+  module _ (last : Run) (out' : List ℕ) (e : run_of sound room rest s ≡ last) (enough : r.count + length last.lines ≤ length out) (wrote : out' ≡ laid out r.count last.lines) (none : last.used ≡ 0) where
+    whole : run_of sound (length out₀) log s₀ ≡ prefixed (take r.count out) r.used last
+    whole = sym inv.run ∙ ap (prefixed (take r.count out) r.used) e
 
-    front : length (take end out) ≡ end
-    front = length-take-le end out inv.room
+    front : length (take r.count out) ≡ r.count
+    front = length-take-le r.count out inv.room
 
-    long : length (take end out ++ last.lines) ≡ end + length last.lines
-    long = length-append (take end out) last.lines ∙ ap (λ (k : ℕ). k + length last.lines) front
+    long : length (take r.count out ++ last.lines) ≡ r.count + length last.lines
+    long = length-append (take r.count out) last.lines ∙ ap (λ (k : ℕ). k + length last.lines) front
 
-    back : drop (end + length last.lines) out ≡ drop (end + length last.lines) out₀
-    back = drop_more out out₀ end (length last.lines) inv.kept
+    back : drop (r.count + length last.lines) out ≡ drop (r.count + length last.lines) out₀
+    back = drop_more out out₀ r.count (length last.lines) inv.kept
 
-    as-laid : laid out end last.lines ≡ laid out₀ 0 (take end out ++ last.lines)
+    as-laid : laid out r.count last.lines ≡ laid out₀ 0 (take r.count out ++ last.lines)
     unfolding laid
     as-laid =
-        sym (append_assoc (take end out) last.lines (drop (end + length last.lines) out))
-        ∙ ap (λ (l : List ℕ). (take end out ++ last.lines) ++ l) (back ∙ ap (λ (k : ℕ). drop k out₀) (sym (zero-add (length (take end out ++ last.lines)) ∙ long)))
+        sym (append_assoc (take r.count out) last.lines (drop (r.count + length last.lines) out))
+        ∙ ap (λ (l : List ℕ). (take r.count out ++ last.lines) ++ l) (back ∙ ap (λ (k : ℕ). drop k out₀) (sym (zero-add (length (take r.count out ++ last.lines)) ∙ long)))
 
     same_length : length out' ≡ length out
-    same_length = ap length wrote ∙ laid-length out end last.lines fits
+    same_length = ap length wrote ∙ laid-length out r.count last.lines enough
 
-    pub ends : (r : Ran) → r ≡ record { world = last.state.world; tally = last.state.tally; number = last.state.number; used = at; count = end + length last.lines; stop = last.stop } →
-        Answers (run_of sound (length out₀) log s₀) (length log) r out₀ out'
+    ends : Answers (run_of sound (length out₀) log s₀) (length log)
+        (record { world = last.state.world; tally = last.state.tally; number = last.state.number; used = r.used; count = r.count + length last.lines; stop = last.stop }) out₀ out'
     unfolding ran_of
-    ends r er =
-        rw (whole, er) (record {
+    ends =
+        rw whole (record {
           ran = rw (none, add-zero, long) refl;
           wrote = wrote ∙ as-laid;
-          counts = (omega (arith, same_length), sym (length-take-le (end + length last.lines) out' (omega (arith, same_length))));
-          within = inv.within;
+          counts = (omega (arith, same_length), sym (length-take-le (r.count + length last.lines) out' (omega (arith, same_length))));
+          within = omega (arith, inv.within);
         })
 
+  -- nothing more was run
+  stays : (stop : Stop) (out' : List ℕ) → out' ≡ out → run_of sound room rest s ≡ stopped stop s →
+      Answers (run_of sound (length out₀) log s₀) (length log) (record { world = r.world; tally = r.tally; number = r.number; used = r.used; count = r.count; stop = stop }) out₀ out'
+  stays stop out' eo e =
+      subst (λ (k : ℕ). Answers (run_of sound (length out₀) log s₀) (length log) (record { world = r.world; tally = r.tally; number = r.number; used = r.used; count = k; stop = stop }) out₀ out') (add-zero r.count)
+      (ends (stopped stop s) out' e (omega (arith, inv.room)) (eo ∙ sym (laid_none out r.count)) refl)
+
   -- fewer bytes are left than a record has
-  pub ends-short : (r : Ran) → length log - at < 10 → r ≡ record { world = s.world; tally = s.tally; number = s.number; used = at; count = end; stop = S.Short } →
-      Answers (run_of sound (length out₀) log s₀) (length log) r out₀ out
-  ends-short r few er =
-      ends (stopped S.Short s) out (runs-out sound (length out - end) (drop at log) s (omega (arith, length-drop at log))) (omega (arith, inv.room)) (sym (laid_none out end)) refl r
-      (er ∙ ap (λ (k : ℕ). record { world = s.world; tally = s.tally; number = s.number; used = at; count = k; stop = S.Short }) (sym (add-zero end)))
+  pub ends-short : length rest < 10 → Answers (run_of sound (length out₀) log s₀) (length log) r out₀ out
+  ends-short few =
+      subst (λ (x : Stop). Answers (run_of sound (length out₀) log s₀) (length log) (record { world = r.world; tally = r.tally; number = r.number; used = r.used; count = r.count; stop = x }) out₀ out) (sym inv.stop)
+      (stays S.Short out refl (runs-out sound room rest s few))
 
-  module _ (ten : 10 ≤ length log - at) where
-    ten' : 10 ≤ length (drop at log)
-    ten' = omega (arith, length-drop at log)
+  -- a record, and what is behind it
+  module _ (x rest' : List ℕ) (parted : rest ≡ x ++ rest') (ten : length x ≡ 10) where
+    abbrev line : List ℕ
+    line = record_line sound x s
 
-    unrolled :
-        run_of sound (length out - end) (drop at log) s ≡
-        turn_of (length out - end) (drop at log) s (record_line sound (drop at log) s)
-        (run_of sound (length out - end - length (record_line sound (drop at log) s)) (drop 10 (drop at log)) (record_state sound (drop at log) s))
-    unrolled = unroll sound (length out - end) (drop at log) s ten'
+    unrolled : run_of sound room rest s ≡ turn_of room x s line (run_of sound (room - length line) rest' (record_state sound x s))
+    unrolled = ap (λ (l : List ℕ). run_of sound room l s) parted ∙ unroll-record sound room x rest' s ten
 
-    -- the next line has no room: nothing is written, and nothing is used
-    full : run_of sound (length out - end) (drop at log) s ≡ stopped S.Room s → (out' : List ℕ) → out' ≡ out → (r : Ran) →
-        r ≡ record { world = s.world; tally = s.tally; number = s.number; used = at; count = end; stop = S.Room } →
-        Answers (run_of sound (length out₀) log s₀) (length log) r out₀ out'
-    full e out' eo r er =
-        ends (stopped S.Room s) out' e (omega (arith, inv.room)) (eo ∙ sym (laid_none out end)) refl r
-        (er ∙ ap (λ (k : ℕ). record { world = s.world; tally = s.tally; number = s.number; used = at; count = k; stop = S.Room }) (sym (add-zero end)))
+    -- the next line has no room
+    ends-full : (r' : Ran) (out' : List ℕ) → NoRoom (next_event sound x r) r r' out out' →
+        Answers (run_of sound (length out₀) log s₀) (length log) (record { world = r'.world; tally = r'.tally; number = r'.number; used = r'.used; count = r'.count; stop = S.Room }) out₀ out'
+    unfolding next_event
+    ends-full r' out' n =
+        subst (λ (v : Ran). Answers (run_of sound (length out₀) log s₀) (length log) (record { world = v.world; tally = v.tally; number = v.number; used = v.used; count = v.count; stop = S.Room }) out₀ out') (sym n.same)
+        (stays S.Room out' n.keeps (unrolled ∙ by (eqb (ending_of r.number x) 0) refl))
+      where
+        by : (b : Bool) → eqb (ending_of r.number x) 0 ≡ b → turn_of room x s line (run_of sound (room - length line) rest' (record_state sound x s)) ≡ stopped S.Room s
+        by true q =
+            turn-full room x s line _ (eqb-true _ 0 q)
+            (shifted r.count (length line) (length out) inv.room ∙ (ap (λ (e : Event). fits out r e) (sym (rw q refl)) ∙ n.room))
+        by false q =
+            turn-ends-full room x s line _ {number = ending_of r.number x} refl q
+            (shifted r.count (length (last_line (ending_of r.number x) s)) (length out) inv.room ∙ (ap (λ (e : Event). fits out r e) (sym (rw q refl)) ∙ n.room))
 
-    -- a refusal that ends the run
-    module _ (l : List ℕ) (el : l ≡ drop at log) {number next : ℕ} (en : number ≡ ending_of s.number l) (z : number ≡ 0 → ⊥) (out' : List ℕ)
-        (ex : next ≡ end_of (length out) end (line_of s.number (E.Refused number))) (eo : out' ≡ lay_of out end (line_of s.number (E.Refused number))) where
-      abbrev line : List ℕ
-      line = last_line number s
+    -- a refusal ends the run
+    ends_by : (number : ℕ) (r' : Ran) (out' : List ℕ) → Ends number x r r' out out' →
+        Answers (run_of sound (length out₀) log s₀) (length log) (record { world = r'.world; tally = r'.tally; number = r'.number; used = r'.used; count = r'.count; stop = S.Ended number }) out₀ out'
+    unfolding told
+    ends_by number r' out' n =
+        let t = n.tells in
+        subst (λ (v : Ran). Answers (run_of sound (length out₀) log s₀) (length log) (record { world = v.world; tally = v.tally; number = v.number; used = v.used; count = v.count; stop = S.Ended number }) out₀ out') (sym t.after)
+        (ends (record { lines = last_line number s; state = last_state number s; used = 0; stop = S.Ended number }) out'
+        (unrolled ∙ turn-ends room x s line _ n.is n.some (shifted r.count (length (last_line number s)) (length out) inv.room ∙ t.room)) (leb-true _ _ t.room) t.lays refl)
 
-      en' : number ≡ ending_of s.number (drop at log)
-      en' = en ∙ ap (ending_of s.number) el
+    -- either of them
+    pub ends-so : (r' : Ran) (out' : List ℕ) (x' : Stop) → Turns sound x r r' out out' (Err x') →
+        Answers (run_of sound (length out₀) log s₀) (length log) (record { world = r'.world; tally = r'.tally; number = r'.number; used = r'.used; count = r'.count; stop = x' }) out₀ out'
+    unfolding Turns
+    ends-so r' out' S.Short t = absurd t
+    ends-so r' out' S.Room t = ends-full r' out' t
+    ends-so r' out' (S.Ended number) t = ends_by number r' out' t
 
-      some : 1 ≤ length line
-      some = line-some s.number (E.Refused number)
-
-      pub ends-full : next ≡ end → (r : Ran) → r ≡ record { world = s.world; tally = s.tally; number = s.number; used = at; count = end; stop = S.Room } →
-          Answers (run_of sound (length out₀) log s₀) (length log) r out₀ out'
-      ends-full same r er =
-          let q = no_room out line end some inv.room ex same in
-          full (unrolled ∙ turn-ends-full (length out - end) (drop at log) s _ _ en' (ne_eqb number 0 z) (room-none out line end some inv.room ex q)) out'
-          (eo ∙ lay-not out end line q) r er
-
-      pub ends_by : (next ≡ end → ⊥) → (tally : Tally) → tally ≡ add_event s.tally (E.Refused number) false → (r : Ran) →
-          r ≡ record { world = s.world; tally = tally; number = s.number; used = at; count = next; stop = S.Ended number } →
-          Answers (run_of sound (length out₀) log s₀) (length log) r out₀ out'
-      ends_by other tally et r er =
-          let q = has_room out line end some inv.room ex other in
-          let fits : end + length line ≤ length out = leb-true _ _ q in
-          ends (record { lines = line; state = last_state number s; used = 0; stop = S.Ended number }) out'
-          (unrolled ∙ turn-ends (length out - end) (drop at log) s _ _ en' (ne_eqb number 0 z) (room-left out line end some inv.room ex q)) fits
-          (eo ∙ lay-fits out end line q) refl r (er ∙ rw (et, ex, end_fits out end line q) refl)
-
-    -- a record's act
-    module _ (l : List ℕ) (el : l ≡ drop at log) {next : ℕ} {a : Fields} {r : Acted} (en : ending_of s.number l ≡ 0) (ea : a ≡ fields_of l) (er : r ≡ answer_of sound s.world a)
-        (out' : List ℕ) (ex : next ≡ end_of (length out) end (line_of s.number r.event)) (eo : out' ≡ lay_of out end (line_of s.number r.event)) where
-      abbrev said : List ℕ
-      said = line_of s.number r.event
-
-      en'' : ending_of s.number (drop at log) ≡ 0
-      en'' = ap (ending_of s.number) (sym el) ∙ en
-
-      answered : r ≡ answer_of sound s.world (fields_of (drop at log))
-      answered = er ∙ ap (λ (b : Fields). answer_of sound s.world b) (ea ∙ ap fields_of el)
-
-      said-is : record_line sound (drop at log) s ≡ said
-      said-is = ap (λ (b : Acted). line_of s.number b.event) (sym answered)
-
-      said-some : 1 ≤ length said
-      said-some = line-some s.number r.event
-
-      pub act-full : next ≡ end → (ran : Ran) → ran ≡ record { world = s.world; tally = s.tally; number = s.number; used = at; count = end; stop = S.Room } →
-          Answers (run_of sound (length out₀) log s₀) (length log) ran out₀ out'
-      act-full same ran e =
-          let q = no_room out said end said-some inv.room ex same in
-          full (unrolled ∙ turn-full (length out - end) (drop at log) s _ _ en'' (ap (λ (x : List ℕ). leb (length x) (length out - end)) said-is ∙ room-none out said end said-some inv.room ex q)) out'
-          (eo ∙ lay-not out end said q) ran e
-
-      -- its line laid, the run goes on behind it
-      module _ (other : next ≡ end → ⊥) (u : Tally) (eu : u ≡ add_event s.tally r.event (grants_of (get_or s.world.threads a.thread idle).at)) where
-        fits : leb (end + length said) (length out) ≡ true
-        fits = has_room out said end said-some inv.room ex other
-
-        inside : end + length said ≤ length out
-        inside = leb-true (end + length said) (length out) fits
-
-        on : next ≡ end + length said
-        on = ex ∙ end_fits out end said fits
-
-        lay : out' ≡ laid out end said
-        lay = eo ∙ lay-fits out end said fits
+    -- the run goes on behind the record
+    pub goes-on : (r' : Ran) (out' : List ℕ) {done : Unit {0}} → Turns sound x r r' out out' (Ok done) →
+        Inv sound log out₀ s₀ out' (record { world = r'.world; tally = r'.tally; number = r'.number; used = r'.used + 10; count = r'.count; stop = r'.stop }) rest'
+    unfolding numbered_on acted_on noted Turns
+    goes-on r' out' n =
+        subst (λ (v : Ran). Inv sound log out₀ s₀ out' (record { world = v.world; tally = v.tally; number = v.number; used = v.used + 10; count = v.count; stop = v.stop }) rest') (sym n.after)
+        (record {
+          stop = inv.stop;
+          within = let a = length-append x rest' in omega (arith, inv.within, ap length parted);
+          room = omega (arith, inside, longer);
+          same = longer ∙ inv.same;
+          kept = ap (drop (r.count + length line)) n.lays ∙ (laid-drop out r.count line inside ∙ drop_more out out₀ r.count (length line) inv.kept);
+          run = going;
+        })
+      where
+        inside : r.count + length line ≤ length out
+        inside = leb-true _ _ n.room
 
         longer : length out' ≡ length out
-        longer = ap length lay ∙ laid-length out end said inside
+        longer = ap length n.lays ∙ laid-length out r.count line inside
 
-        abbrev pub s' : State
-        s' = state_of r.world u (s.number + 1)
+        s' : State
+        s' = record_state sound x s
 
-        abbrev rest : Run
-        rest = run_of sound (length out - end - length said) (drop 10 (drop at log)) s'
+        behind : Run
+        behind = run_of sound (room - length line) rest' s'
 
-        behind : run_of sound (length out - end - length (record_line sound (drop at log) s)) (drop 10 (drop at log)) (record_state sound (drop at log) s) ≡ rest
-        behind =
-            ap (λ (x : List ℕ). run_of sound (length out - end - length x) (drop 10 (drop at log)) (record_state sound (drop at log) s)) said-is
-            ∙ ap (λ (x : State). run_of sound (length out - end - length said) (drop 10 (drop at log)) x) (recorded sound (drop at log) s a r u (ea ∙ ap fields_of el) er eu)
+        turned : run_of sound room rest s ≡ prefixed line 10 behind
+        turned = unrolled ∙ turn-goes room x s line behind n.goes (shifted r.count (length line) (length out) inv.room ∙ n.room)
 
-        turn : run_of sound (length out - end) (drop at log) s ≡ prefixed said 10 rest
-        turn =
-            unrolled
-            ∙ (turn-goes (length out - end) (drop at log) s (record_line sound (drop at log) s)
-            (run_of sound (length out - end - length (record_line sound (drop at log) s)) (drop 10 (drop at log)) (record_state sound (drop at log) s)) en''
-            (ap (λ (x : List ℕ). leb (length x) (length out - end)) said-is ∙ room-left out said end said-some inv.room ex fits)
-            ∙ (ap (λ (x : List ℕ). prefixed x 10 (run_of sound (length out - end - length (record_line sound (drop at log) s)) (drop 10 (drop at log)) (record_state sound (drop at log) s))) said-is ∙ ap (prefixed said 10) behind))
+        room-is : length out' - (r.count + length line) ≡ room - length line
+        room-is = omega (arith, longer)
 
-        front-is : take next out' ≡ take end out ++ said
-        front-is = ap (λ (k : ℕ). take k out') on ∙ (ap (take (end + length said)) lay ∙ laid-take out end said inside)
-
-        room-is : length out' - next ≡ length out - end - length said
-        room-is = omega (arith, on, longer)
-
-        going : prefixed (take next out') (at + 10) (run_of sound (length out' - next) (drop (at + 10) log) s') ≡ run_of sound (length out₀) log s₀
+        going : prefixed (take (r.count + length line) out') (r.used + 10) (run_of sound (length out' - (r.count + length line)) rest' s') ≡ run_of sound (length out₀) log s₀
         going =
-            ap (λ (x : List ℕ). prefixed x (at + 10) (run_of sound (length out' - next) (drop (at + 10) log) s')) front-is
-            ∙ (ap (λ (k : ℕ). prefixed (take end out ++ said) (at + 10) (run_of sound k (drop (at + 10) log) s')) room-is
-            ∙ (ap (λ (x : List ℕ). prefixed (take end out ++ said) (at + 10) (run_of sound (length out - end - length said) x s')) (sym (drop-drop 10 at log))
-            ∙ (sym (prefixed-twice (take end out) said at 10 rest) ∙ (ap (prefixed (take end out) at) (sym turn) ∙ inv.run))))
+            ap (λ (l : List ℕ). prefixed l (r.used + 10) (run_of sound (length out' - (r.count + length line)) rest' s')) (ap (take (r.count + length line)) n.lays ∙ laid-take out r.count line inside)
+            ∙ (ap (λ (k : ℕ). prefixed (take r.count out ++ line) (r.used + 10) (run_of sound k rest' s')) room-is
+            ∙ (sym (prefixed-twice (take r.count out) line r.used 10 behind) ∙ (ap (prefixed (take r.count out) r.used) (sym turned) ∙ inv.run)))
 
-        pub act-goes : Inv sound log out₀ s₀ out' s' (at + 10) next
-        act-goes = record {
-          within = omega (arith, inv.within);
-          room = omega (arith, on, inside, longer);
-          same = longer ∙ inv.same;
-          kept = ap (λ (k : ℕ). drop k out') on ∙ (ap (drop (end + length said)) lay ∙ (laid-drop out end said inside ∙ (drop_more out out₀ end (length said) inv.kept ∙ ap (λ (k : ℕ). drop k out₀) (sym on))));
-          run = going;
-        }
+-- .. for the soundness that the code found
+pub retold :
+    {b c : Bool} (log out₀ out' : List ℕ) (s₀ : State) (r : Ran) → b ≡ c → Answers (run_of b (length out₀) log s₀) (length log) r out₀ out' →
+    Answers (run_of c (length out₀) log s₀) (length log) r out₀ out'
+retold log out₀ out' s₀ r e h = subst (λ (d : Bool). Answers (run_of d (length out₀) log s₀) (length log) r out₀ out') e h
 
 -- a part of a log, as the code takes it
 pub from-part :
@@ -284,71 +347,43 @@ past_end sound l a s out h =
     let e : run_of sound (length out) (drop a l) s ≡ stopped S.Short s = runs-out sound (length out) (drop a l) s (omega (arith, length-drop a l)) in
     rw e (record { ran = refl; wrote = sym (laid_none out 0); counts = (omega arith, refl); within = omega arith })
 
--- the second of two tests, the first being true
-pub second : (b : Bool) {a : Bool} → a ≡ true → b ≡ a && b
-second b e = rw e refl
-
 -- the end of a log: nothing to refuse, or a refusal
-module _ (out : List ℕ) (t : Tally) (number left : ℕ) {refusal : ℕ} (e : refusal ≡ finish_of number left) where
+module _ (out : List ℕ) (t : Tally) (number left : ℕ) where
   pub nothing_left :
-      refusal ≡ 0 →
+      finish_of number left ≡ 0 →
       (◌≡◌ {A = Finished} (record { tally = t; count = 0 }) (finished_of (length out) t number (finish_of number left)))
       × (out ≡ lay_of out 0 (finished_line number (finish_of number left)))
   unfolding finished_of finished_tally finished_line
-  nothing_left z =
-      let q : finish_of number left ≡ 0 = sym e ∙ z in
+  nothing_left q =
       (rw q (ap (λ (k : ℕ). record { tally = t; count = k }) (sym (end_fits out 0 [] (le-leb 0 (length out) (omega arith))))), rw q (sym (lay-fits out 0 [] (le-leb 0 (length out) (omega arith)) ∙ laid_none out 0)))
 
   pub something-left :
-      (refusal ≡ 0 → ⊥) → (end : ℕ) (x : Tally) (out' : List ℕ) → end ≡ end_of (length out) 0 (line_of number (E.Refused refusal)) →
+      (refusal end : ℕ) (x : Tally) (out' : List ℕ) → (eqb refusal 0 ≡ false) × (refusal ≡ finish_of number left) → end ≡ end_of (length out) 0 (line_of number (E.Refused refusal)) →
       out' ≡ lay_of out 0 (line_of number (E.Refused refusal)) → x ≡ add_event t (E.Refused refusal) false →
       (◌≡◌ {A = Finished} (record { tally = x; count = end }) (finished_of (length out) t number (finish_of number left)))
       × (out' ≡ lay_of out 0 (finished_line number (finish_of number left)))
   unfolding finished_of finished_tally finished_line
-  something-left z end x out' ee eo ex =
-      let q : eqb refusal 0 ≡ false = ne_eqb refusal 0 z in
-      (rw (← e, q, ee, ex) refl, rw (← e, q) eo)
+  something-left refusal end x out' is ee eo ex = (rw (← is.1, is.0, ee, ex) refl, rw (← is.1, is.0) eo)
 
--- the carrying loop: what was carried stands at the start, and the rest is as it was
-pub record Carried (buf₀ : List ℕ) (from end : ℕ) (buf : List ℕ) (i at : ℕ) : Type 0 where
-  pub apart : at ≡ from + i
-  pub upto : i ≤ end - from
-  pub same : length buf ≡ length buf₀
-  pub front : take i buf ≡ take i (drop from buf₀)
-  pub back : drop i buf ≡ drop i buf₀
-
-pub carry-start : (buf₀ : List ℕ) (from end : ℕ) → Carried buf₀ from end buf₀ 0 from
-carry-start buf₀ from end = record { apart = sym (add-zero from); upto = omega arith; same = refl; front = refl; back = refl }
-
-pub carry-step :
-    (buf₀ : List ℕ) (from end : ℕ) (buf : List ℕ) (i at : ℕ) → end ≤ length buf₀ → at < end → Carried buf₀ from end buf i at →
-    Carried buf₀ from end (set buf i (get_or buf at 0)) (i + 1) (at + 1)
-carry-step buf₀ from end buf i at fits more inv =
-    let a : at ≡ from + i = inv.apart in
-    let here : i < length buf = omega (arith, a, inv.same) in
-    let there : i < length (drop from buf₀) = omega (arith, a, length-drop from buf₀) in
-    let v : get_or buf at 0 ≡ get_or (drop from buf₀) i 0 =
-    ap (λ (k : ℕ). get_or buf k 0) (a ∙ add_comm from i)
-    ∙ (sym (get_or-drop i buf from 0) ∙ (ap (λ (l : List ℕ). get_or l from 0) inv.back ∙ (get_or-drop i buf₀ from 0 ∙ (ap (λ (k : ℕ). get_or buf₀ k 0) (add_comm i from) ∙ sym (get_or-drop from buf₀ i 0))))) in
-    record {
-      apart = omega (arith, a);
-      upto = omega (arith, a);
-      same = length-set buf i _ ∙ inv.same;
-      front = rw add-one (take-suc-set buf i _ here ∙ (ap (λ (l : List ℕ). l ++ (get_or buf at 0 ∷ [])) inv.front ∙ (ap (λ (k : ℕ). take i (drop from buf₀) ++ (k ∷ [])) v ∙ sym (take-suc (drop from buf₀) i 0 there))));
-      back = drop-set-lt (i + 1) buf i _ (omega arith) ∙ drop_more buf buf₀ i 1 inv.back;
-    }
-
-pub carry-end :
-    (buf₀ : List ℕ) (from end : ℕ) (buf : List ℕ) (i at : ℕ) → end ≤ length buf₀ → end ≤ at → Carried buf₀ from end buf i at → buf ≡ carried_of buf₀ from end
+-- bytes carried to the start
+pub carried : (buf : List ℕ) (from end start : ℕ) → start ≡ min from end → end ≤ length buf → copy_within buf start end 0 ≡ carried_of buf from end
 unfolding carried_of
-carry-end buf₀ from end buf i at fits past inv =
-    let e : i ≡ end - from = omega (arith, inv.apart, inv.upto) in
-    let h : leb end (length buf₀) ≡ true = le-leb end (length buf₀) fits in
-    rw (h, ← e) (sym (take-append-drop i buf) ∙ (ap (λ (l : List ℕ). l ++ drop i buf) inv.front ∙ ap (λ (l : List ℕ). take i (drop from buf₀) ++ l) inv.back))
+carried buf from end start e inside = rw (le-leb end (length buf) inside) (by (leb from end) refl)
+  where
+    by : (b : Bool) → leb from end ≡ b → copy_within buf start end 0 ≡ moved_of buf from (end - from)
+    by true q =
+        let h : from ≤ end = leb-true _ _ q in
+        let m : start ≡ from = omega arith in
+        ap (λ (k : ℕ). copy_within buf k end 0) m ∙ ap (λ (n : ℕ). take (end - from) (drop from buf) ++ drop n buf) (zero-add (end - from))
+    by false q =
+        let h : end < from = leb-false _ _ q in
+        let z : end - start ≡ 0 = omega arith in
+        let z' : end - from ≡ 0 = omega arith in
+        ap (λ (n : ℕ). (take n (drop start buf)) ++ drop (0 + n) buf) z ∙ sym (ap (λ (n : ℕ). moved_of buf from n) z')
 
-pub carry-none : (buf₀ : List ℕ) (from end : ℕ) → length buf₀ < end → buf₀ ≡ carried_of buf₀ from end
+pub not-carried : (buf : List ℕ) (from end : ℕ) → length buf < end → buf ≡ carried_of buf from end
 unfolding carried_of
-carry-none buf₀ from end h = let q : leb end (length buf₀) ≡ false = lt-leb end (length buf₀) h in rw q refl
+not-carried buf from end h = rw (lt-leb end (length buf) h) refl
 
 -- the first bytes of a buffer, up to a place that may be past its end
 pub first-bytes : (buf : List ℕ) (end stop : ℕ) → stop ≡ min end (length buf) → (take stop buf ≡ take end buf) × (stop ≡ length (take end buf))

@@ -8,7 +8,7 @@ use mathlib.Core.List.{List, [], ◌∷◌, ◌++◌, append_assoc}
 use lib.Dec.{eqb, leb}
 use lib.ListN.{length, drop}
 use Rattle.replay_log.specs.declared.Stop.TheVariants as S
-use Rattle.replay_log.specs.Run.{State, Run, stopped, prefixed, ending_of, ended_by, last_line, last_state, turn_of, record_line, record_state, run_of}
+use Rattle.replay_log.specs.Run.{State, Run, stopped, prefixed, mark_of, noted, ending_of, ended_by, last_line, last_state, turn_of, record_line, record_state, run_of}
 
 pub prefixed-none : (r : Run) → prefixed [] 0 r ≡ r
 prefixed-none r = simp zero-add
@@ -48,6 +48,25 @@ unroll sound room (a ∷ b ∷ c ∷ d ∷ e ∷ f ∷ g ∷ []) s h = absurd (o
 unroll sound room (a ∷ b ∷ c ∷ d ∷ e ∷ f ∷ g ∷ o ∷ []) s h = absurd (omega arith)
 unroll sound room (a ∷ b ∷ c ∷ d ∷ e ∷ f ∷ g ∷ o ∷ i ∷ []) s h = absurd (omega arith)
 unroll sound room (a ∷ b ∷ c ∷ d ∷ e ∷ f ∷ g ∷ o ∷ i ∷ j ∷ rest) s h = refl
+
+-- the same, of a record and what is behind it
+pub unroll-record :
+    (sound : Bool) (room : ℕ) (x rest : List ℕ) (s : State) → length x ≡ 10 →
+    run_of sound room (x ++ rest) s ≡
+    turn_of room x s (record_line sound x s) (run_of sound (room - length (record_line sound x s)) rest (record_state sound x s))
+unfolding run_of turn_of ending_of mark_of noted
+unroll-record sound room [] rest s h = absurd (omega arith)
+unroll-record sound room (a ∷ []) rest s h = absurd (omega arith)
+unroll-record sound room (a ∷ b ∷ []) rest s h = absurd (omega arith)
+unroll-record sound room (a ∷ b ∷ c ∷ []) rest s h = absurd (omega arith)
+unroll-record sound room (a ∷ b ∷ c ∷ d ∷ []) rest s h = absurd (omega arith)
+unroll-record sound room (a ∷ b ∷ c ∷ d ∷ e ∷ []) rest s h = absurd (omega arith)
+unroll-record sound room (a ∷ b ∷ c ∷ d ∷ e ∷ f ∷ []) rest s h = absurd (omega arith)
+unroll-record sound room (a ∷ b ∷ c ∷ d ∷ e ∷ f ∷ g ∷ []) rest s h = absurd (omega arith)
+unroll-record sound room (a ∷ b ∷ c ∷ d ∷ e ∷ f ∷ g ∷ o ∷ []) rest s h = absurd (omega arith)
+unroll-record sound room (a ∷ b ∷ c ∷ d ∷ e ∷ f ∷ g ∷ o ∷ i ∷ []) rest s h = absurd (omega arith)
+unroll-record sound room (a ∷ b ∷ c ∷ d ∷ e ∷ f ∷ g ∷ o ∷ i ∷ j ∷ []) rest s h = refl
+unroll-record sound room (a ∷ b ∷ c ∷ d ∷ e ∷ f ∷ g ∷ o ∷ i ∷ j ∷ k ∷ more) rest s h = absurd (omega arith)
 
 -- the ways of a turn
 module _ (room : ℕ) (l : List ℕ) (s : State) (line : List ℕ) (rest : Run) where

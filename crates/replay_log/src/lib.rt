@@ -1,20 +1,18 @@
 // The run of a log: records of ten bytes, one line for each, and a tally. A log can be run in parts, each
 // from the world, the tally and the number that the part before it reached.
-#![tactic(auto, unfolding(crate::specs::InPlace::quick_begin, crate::specs::InPlace::quick_of, crate::specs::Run::answer_of, crate::specs::Run::ending_of, crate::specs::Run::finish_of, crate::specs::Run::mark_of))]
+#![tactic(auto, unfolding(step::specs::Acts::begin_of, step::specs::Acts::recorded, step::specs::Step::own_plan, crate::specs::InPlace::Acts, crate::specs::InPlace::Tells, crate::specs::InPlace::Turns, crate::specs::InPlace::quick_begin, crate::specs::InPlace::quick_of, crate::specs::InPlace::stored_by, crate::specs::InPlace::told_by, crate::specs::Run::answer_of, crate::specs::Run::ending_of, crate::specs::Run::finish_of, crate::specs::Run::if_any, crate::specs::Run::mark_of))]
 
-ghost use Rattle.std.specs.Prelude.{◌≡◌, Bool, ◌+◌, ◌-◌, ◌≤◌, ◌<◌, ◌%◌, min, length, take, drop, get_or};
+ghost use Rattle.std.specs.Prelude.{◌≡◌, ◌-◌, ◌≤◌, ◌<◌, min, length, take, drop, IfSome};
 ghost use Rattle.queue.specs.Row.{THREADS};
-ghost use Rattle.calls.specs.Objects.{WORDS};
 ghost use Rattle.tally.specs.Tally.{grants_of};
-ghost use Rattle.calls.specs.Plans.{idle};
-ghost use Rattle.calls.specs.Plans.{awake as stands_at};
 ghost use Rattle.sound.specs.Sound.{sound_world};
 ghost use Rattle.lines.specs.Lines.{lay_of};
-ghost use Rattle.replay_log.specs.Run.{IsPrefixLen, fields_of, mark_of, ending_of, answer_of, run_of, state_of, Answers, carried_of, finish_of, finished_line, finished_of};
-ghost use Rattle.replay_log.specs.InPlace.{quick_of, quick_begin};
+ghost use Rattle.world.specs.World.{thread_at};
+ghost use Rattle.replay_log.specs.Run.{IsPrefixLen, fields_of, mark_of, if_any, ending_of, answer_of, run_of, state_of, Answers, carried_of, finish_of, finished_line, finished_of};
+ghost use Rattle.replay_log.specs.InPlace.{quick_of, quick_begin, told_by, stored_by, Does, Tells, Acts, Turns};
 
-use acts::Fields;
-use calls::{At, Event, Thread, WORDS};
+use acts::{Action, Fields};
+use calls::{At, Event, Plan, Thread};
 use queue::THREADS;
 use step::Acted;
 use tally::Tally;
@@ -56,24 +54,24 @@ pub struct Finished {
 // So many records have numbers; any byte behind them is refused.
 const LAST: u32 = 0xFFFF_FFFF;
 
-fn wide(x: u8) -> u32
-    ensures { (result ≡ x) × (x < 256) }
-{
-    x as u32
-}
+// What ends a run: a bad mark, too few bytes for a record, no number left.
+const BAD_MARK: u8 = 20;
+
+const SHORT_RECORD: u8 = 21;
+
+const NO_NUMBER: u8 = 22;
 
 // The fields of the record that the bytes begin with.
 fn fields(l: &[u8]) -> Fields
     requires { 10 ≤ length l.now }
     ensures { result ≡ fields_of l.now }
 {
-    let value = wide(l[6]) + wide(l[7]) * 256 + wide(l[8]) * 65536 + wide(l[9]) * 16777216;
     Fields {
         act: l[2],
         choice: l[3],
         thread: l[4],
         object: l[5],
-        value: value,
+        value: u32::from_le_bytes([l[6], l[7], l[8], l[9]]),
     }
 }
 
@@ -82,11 +80,21 @@ fn is_marked(l: &[u8]) -> bool
     requires { 10 ≤ length l.now }
     ensures { result ≡ mark_of l.now }
 {
-    let first = l[0] == 0xB1;
-    if first {
-        return l[1] == 0x6B;
+    l[0] == 0xB1 && l[1] == 0x6B
+}
+
+// The refusal that ends a run before a record: the numbers are used up, or its mark is bad.
+fn ending(number: u32, l: &[u8]) -> Option<u8>
+    requires { 10 ≤ length l.now }
+    ensures { result ≡ if_any (ending_of number l.now) }
+{
+    if number == LAST {
+        return Some(NO_NUMBER);
     }
-    false
+    if is_marked(l) {
+        return None;
+    }
+    Some(BAD_MARK)
 }
 
 // An act's answer, soundness having been tested before the first record.
@@ -102,88 +110,17 @@ fn answer(sound: bool, w: World, a: Fields) -> Acted
     }
 }
 
-// The refusal that ends a run before a record: 22 where the numbers are used up, 20 for a bad mark; 0 is
-// neither.
-fn ending(number: u32, l: &[u8]) -> u8
-    requires { 10 ≤ length l.now }
-    ensures { result ≡ ending_of number l.now }
+// Whether a record is a step of a thread with this record that is accepted and wakes nobody: it is run in
+// place, if the thread's word is there.
+fn is_quick(sound: bool, a: Fields, th: Thread) -> bool
+    ensures { result ≡ quick_of sound a th }
 {
-    let last = number == LAST;
-    if last {
-        return 22;
-    }
-    let marked = is_marked(l);
-    if marked {
-        return 0;
-    }
-    20
-}
-
-// Whether a done-1 event of thread t is a grant, by the call that it is in.
-fn grants_at(threads: [Thread; THREADS], t: u8) -> bool
-    ensures { result ≡ grants_of (get_or threads t idle).at }
-{
-    let th = world::thread_at(threads, t);
-    let at = th.at;
-    tally::grants(at)
-}
-
-// A thread's place in a table of records; that of a thread that exists is its number.
-fn thread_place(t: u8) -> usize
-    ensures { (result ≡ t % THREADS) × (result < THREADS) }
-{
-    (t as usize) % THREADS
-}
-
-// A word's place in the row; that of a word that exists is its number.
-fn word_place(k: usize) -> usize
-    ensures { (result ≡ k % WORDS) × (result < WORDS) }
-{
-    k % WORDS
-}
-
-// Whether a record is a step of a thread with this record, about word k, that is accepted and wakes nobody:
-// it is run in place.
-fn is_quick(sound: bool, a: Fields, th: Thread, k: usize) -> bool
-    ensures { result ≡ quick_of sound a th k }
-{
-    if sound {
-        let step = a.act == acts::STEP;
-        if step {
-            let there = (a.thread as usize) < THREADS;
-            if there {
-                let refusal = acts::fields_refusal(a);
-                let good = refusal == 0;
-                if good {
-                    let number = acts::step_refusal(th, a.choice);
-                    let allowed = number == 0;
-                    if allowed {
-                        let at = th.at;
-                        let wakes = calls::may_wake(at);
-                        if wakes {
-                            return false;
-                        }
-                        return k < WORDS;
-                    }
-                    return false;
-                }
-                return false;
-            }
-            return false;
-        }
-        return false;
-    }
-    false
-}
-
-// The record of a thread that stands there, awake.
-fn awake(at: At) -> Thread
-    ensures { result ≡ stands_at at }
-{
-    Thread {
-        at: at,
-        asleep: false,
-    }
+    sound
+        && a.act == Action::Step as u8
+        && (a.thread as usize) < THREADS
+        && acts::fields_refusal(a).is_ok()
+        && acts::step_refusal(th, a.choice).is_ok()
+        && !calls::may_wake(th.at)
 }
 
 // Whether a record is a begin of a thread with this record that is accepted, where the hold that the call
@@ -191,28 +128,121 @@ fn awake(at: At) -> Thread
 fn is_begin(sound: bool, a: Fields, th: Thread, held: bool) -> bool
     ensures { result ≡ quick_begin sound a th held }
 {
-    if sound {
-        let begin = a.act == acts::BEGIN;
-        if begin {
-            let there = (a.thread as usize) < THREADS;
-            if there {
-                let refusal = acts::fields_refusal(a);
-                let good = refusal == 0;
-                if good {
-                    let at = th.at;
-                    let idle = calls::is_idle(at);
-                    if idle {
-                        return held;
-                    }
-                    return false;
-                }
-                return false;
-            }
-            return false;
+    sound
+        && a.act == Action::Begin as u8
+        && (a.thread as usize) < THREADS
+        && acts::fields_refusal(a).is_ok()
+        && calls::is_idle(th.at)
+        && held
+}
+
+// An act that is stored in place, worked out before its line is laid.
+#[derive(Clone, Copy)]
+enum InPlace {
+    // a step over word k that wakes nobody
+    Step { k: usize, plan: Plan },
+    Begin { at: At },
+}
+
+impl InPlace {
+    // A record's act, if it is one of these; `th`: the record of its thread.
+    fn of(sound: bool, w: &World, a: Fields, th: Thread) -> Option<InPlace>
+        requires { th ≡ thread_at w.now a.thread }
+        ensures { IfSome result (λ act. Does sound w.now a act) }
+    {
+        if is_quick(sound, a, th) {
+            let k = calls::operand(a.thread, th.at)?;
+            let plan = calls::decide(th.at, a.choice == 1, w.word(k), false);
+            return Some(InPlace::Step { k, plan });
         }
-        return false;
+        let at = acts::start(a);
+        if is_begin(sound, a, th, w.has_hold(a.thread, calls::needs(at))) {
+            return Some(InPlace::Begin { at });
+        }
+        None
     }
-    false
+
+    fn event(&self) -> Event
+        ensures { result ≡ told_by self.now }
+    {
+        match self {
+            InPlace::Step { plan, .. } => calls::tell(plan.event, 0),
+            InPlace::Begin { .. } => Event::Begun,
+        }
+    }
+
+    // Stores it in a world; thread t is the one that acts.
+    fn store(&self, w: &mut World, t: u8)
+        requires { t < THREADS }
+        ensures { w.new ≡ stored_by w.old t self.now }
+    {
+        match self {
+            InPlace::Step { k, plan } => step::store(w, t, *k, *plan),
+            InPlace::Begin { at } => {
+                w.threads[t as usize] = Thread {
+                    at: *at,
+                    asleep: false,
+                };
+                w.started = true;
+            }
+        }
+    }
+}
+
+impl Ran {
+    // Lays an event's line and adds it to the tally; without room it does neither.
+    fn tell(&mut self, event: Event, grant: bool, out: &mut [u8]) -> Result<(), Stop>
+        ensures { Tells event grant self.old self.new out.old out.new result }
+    {
+        let end = lines::put_line(out, self.count, self.number, event);
+        if end == self.count {
+            return Err(Stop::Room);
+        }
+        self.count = end;
+        self.tally.add(event, grant);
+        Ok(())
+    }
+
+    // Tells what a record's act answers, and then does it; `grant`: whether its thread's call takes a lock.
+    fn act(&mut self, sound: bool, a: Fields, grant: bool, out: &mut [u8]) -> Result<(), Stop>
+        requires { grant ≡ grants_of (thread_at self.old.world a.thread).at }
+        ensures { Acts a (answer_of sound self.old.world a) self.old self.new out.old out.new result }
+    {
+        let acted = answer(sound, self.world, a);
+        self.tell(acted.event, grant, out)?;
+        self.world = acted.world;
+        Ok(())
+    }
+
+    // The same, stored in place where that is known to be the answer.
+    fn quick_act(&mut self, sound: bool, a: Fields, out: &mut [u8]) -> Result<(), Stop>
+        ensures { Acts a (answer_of sound self.old.world a) self.old self.new out.old out.new result }
+    {
+        let th = self.world.thread(a.thread);
+        let grant = tally::grants(th.at);
+        match InPlace::of(sound, &self.world, a, th) {
+            Some(act) => {
+                self.tell(act.event(), grant, out)?;
+                act.store(&mut self.world, a.thread);
+                Ok(())
+            }
+            None => self.act(sound, a, grant, out),
+        }
+    }
+
+    // Runs the record that the bytes begin with.
+    fn turn(&mut self, sound: bool, l: &[u8], out: &mut [u8]) -> Result<(), Stop>
+        requires { 10 ≤ length l.now }
+        ensures { Turns sound l.now self.old self.new out.old out.new result }
+    {
+        if let Some(number) = ending(self.number, l) {
+            self.tell(Event::Refused { number }, false, out)?;
+            return Err(Stop::Ended { number });
+        }
+        self.quick_act(sound, fields(l), out)?;
+        self.number += 1;
+        Ok(())
+    }
 }
 
 // Runs the records that a part of a log begins with, from the world, the tally and the number given, and
@@ -221,147 +251,22 @@ pub fn run(w: World, t: Tally, number: u32, log: &[u8], out: &mut [u8]) -> Ran
     ensures { Answers (run_of (sound_world w) (length out.old) log.now (state_of w t number)) (length log.now) result out.old out.new }
 {
     let sound = sound::sound(w);
-    let mut v = w;
-    let mut u = t;
-    let mut n = number;
-    let mut at: usize = 0;
-    let mut end: usize = 0;
-    while RECORD <= log.len() - at {
-        let after = at + RECORD;
-        let refusal = ending(n, &log[at..]);
-        if refusal != 0 {
-            let e = Event::Refused { number: refusal };
-            let next = lines::put_line(out, end, n, e);
-            if next == end {
-                return Ran {
-                    world: v,
-                    tally: u,
-                    number: n,
-                    used: at,
-                    count: end,
-                    stop: Stop::Room,
-                };
-            }
-            let x = tally::noted(u, e, false);
-            return Ran {
-                world: v,
-                tally: x,
-                number: n,
-                used: at,
-                count: next,
-                stop: Stop::Ended { number: refusal },
-            };
-        }
-        let a = fields(&log[at..]);
-        let thread = a.thread;
-        let i = thread_place(thread);
-        let th = v.threads[i];
-        let stands = th.at;
-        let k = calls::operand(thread, stands);
-        let quick = is_quick(sound, a, th, k);
-        if quick {
-            let j = word_place(k);
-            let word = v.words[j];
-            let fails = a.choice == 1;
-            let p = calls::decide(stands, fails, word, false);
-            let event = p.event;
-            let told = calls::tell(event, 0);
-            let next = lines::put_line(out, end, n, told);
-            if next == end {
-                return Ran {
-                    world: v,
-                    tally: u,
-                    number: n,
-                    used: at,
-                    count: end,
-                    stop: Stop::Room,
-                };
-            }
-            let grant = tally::grants(stands);
-            let hold = p.hold;
-            let object = p.object;
-            let record = p.next;
-            let m = world::mutex_slot(thread, object);
-            let l = world::lock_slot(thread, object);
-            let locked = v.locked[m];
-            let written = v.written[l];
-            let reads = v.reads[l];
-            let row = v.sleepers;
-            let locked_now = step::locked_after(hold, locked);
-            let written_now = step::written_after(hold, written);
-            let reads_now = step::reads_after(hold, reads);
-            let row_now = step::slept_row(record.asleep, row, thread);
-            v.words[j] = p.word;
-            v.locked[m] = locked_now;
-            v.written[l] = written_now;
-            v.reads[l] = reads_now;
-            v.threads[i] = record;
-            v.sleepers = row_now;
-            v.started = true;
-            u = tally::noted(u, told, grant);
-            n = n + 1;
-            at = after;
-            end = next;
-            continue;
-        }
-        let first = acts::start(a);
-        let need = calls::needs(first);
-        let all_locked = v.locked;
-        let all_written = v.written;
-        let all_reads = v.reads;
-        let held = world::has_hold(all_locked, all_written, all_reads, thread, need);
-        let begins = is_begin(sound, a, th, held);
-        if begins {
-            let next = lines::put_line(out, end, n, Event::Begun);
-            if next == end {
-                return Ran {
-                    world: v,
-                    tally: u,
-                    number: n,
-                    used: at,
-                    count: end,
-                    stop: Stop::Room,
-                };
-            }
-            let grant = tally::grants(stands);
-            let record = awake(first);
-            v.threads[i] = record;
-            v.started = true;
-            u = tally::noted(u, Event::Begun, grant);
-            n = n + 1;
-            at = after;
-            end = next;
-            continue;
-        }
-        let r = answer(sound, v, a);
-        let event = r.event;
-        let next = lines::put_line(out, end, n, event);
-        if next == end {
-            return Ran {
-                world: v,
-                tally: u,
-                number: n,
-                used: at,
-                count: end,
-                stop: Stop::Room,
-            };
-        }
-        let threads = v.threads;
-        let grant = grants_at(threads, a.thread);
-        u = tally::noted(u, event, grant);
-        v = r.world;
-        n = n + 1;
-        at = after;
-        end = next;
-    }
-    Ran {
-        world: v,
-        tally: u,
-        number: n,
-        used: at,
-        count: end,
+    let mut ran = Ran {
+        world: w,
+        tally: t,
+        number,
+        used: 0,
+        count: 0,
         stop: Stop::Short,
+    };
+    for record in log.chunks_exact(RECORD) {
+        if let Err(stop) = ran.turn(sound, record, out) {
+            ran.stop = stop;
+            return ran;
+        }
+        ran.used += RECORD;
     }
+    ran
 }
 
 // Runs the part of a log that starts at a place; a start past the end is an empty part.
@@ -374,31 +279,28 @@ pub fn run_from(w: World, t: Tally, number: u32, log: &[u8], from: usize, out: &
     Ran {
         world: w,
         tally: t,
-        number: number,
+        number,
         used: 0,
         count: 0,
         stop: Stop::Short,
     }
 }
 
-// The refusal behind the last run, with so many bytes left: 22 for any byte once the numbers are used up,
-// 21 for 1 to 9; 0 is neither.
-pub fn finish(number: u32, left: usize) -> u8
-    ensures { result ≡ finish_of number left }
+// The refusal behind the last run, with so many bytes left: any byte once the numbers are used up, else fewer
+// than a record has.
+pub fn finish(number: u32, left: usize) -> Option<u8>
+    ensures { result ≡ if_any (finish_of number left) }
 {
-    let none = left == 0;
-    if none {
-        return 0;
+    if left == 0 {
+        return None;
     }
-    let last = number == LAST;
-    if last {
-        return 22;
+    if number == LAST {
+        return Some(NO_NUMBER);
     }
-    let short = left < RECORD;
-    if short {
-        return 21;
+    if left < RECORD {
+        return Some(SHORT_RECORD);
     }
-    0
+    None
 }
 
 // Lays the line of that refusal into the buffer, if there is one, and adds it to the tally.
@@ -406,16 +308,15 @@ pub fn put_finish(t: Tally, number: u32, left: usize, out: &mut [u8]) -> Finishe
     ensures value { result ≡ finished_of (length out.old) t number (finish_of number left) }
     ensures out_after { out.new ≡ lay_of out.old 0 (finished_line number (finish_of number left)) }
 {
-    let refusal = finish(number, left);
-    if refusal == 0 {
-        return Finished { tally: t, count: 0 };
-    }
-    let e = Event::Refused { number: refusal };
-    let end = lines::put_line(out, 0, number, e);
-    let x = tally::noted(t, e, false);
-    Finished {
-        tally: x,
-        count: end,
+    match finish(number, left) {
+        None => Finished { tally: t, count: 0 },
+        Some(refusal) => {
+            let e = Event::Refused { number: refusal };
+            Finished {
+                count: lines::put_line(out, 0, number, e),
+                tally: t.noted(e, false),
+            }
+        }
     }
 }
 
@@ -424,10 +325,7 @@ pub fn within(end: usize, buf: &[u8]) -> usize
     ensures prefix_len { IsPrefixLen result buf.now }
     ensures value { result ≡ min end (length buf.now) }
 {
-    if end < buf.len() {
-        return end;
-    }
-    buf.len()
+    end.min(buf.len())
 }
 
 // The bytes of a buffer from one place up to another, moved to its start. Places that are not in it leave
@@ -436,13 +334,7 @@ pub fn carry(buf: &mut [u8], from: usize, end: usize)
     ensures { buf.new ≡ carried_of buf.old from end }
 {
     if end <= buf.len() {
-        let mut i: usize = 0;
-        let mut at: usize = from;
-        while at < end {
-            buf[i] = buf[at];
-            i = i + 1;
-            at = at + 1;
-        }
+        buf.copy_within(from.min(end)..end, 0);
     }
 }
 
@@ -455,7 +347,6 @@ pub fn feed(w: World, t: Tally, number: u32, buf: &mut [u8], end: usize, out: &m
 {
     let stop = within(end, buf);
     let ran = run(w, t, number, &buf[..stop], out);
-    let used = ran.used;
-    carry(buf, used, stop);
+    carry(buf, ran.used, stop);
     ran
 }

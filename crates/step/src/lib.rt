@@ -171,7 +171,7 @@ pub fn slept_row(sleeps: bool, row: Row, t: u8) -> Row
 
 // The stepping thread's own part of its plan over word k: the word, its hold, its record, its place behind the
 // sleepers.
-fn store(w: &mut World, t: u8, k: usize, p: Plan)
+pub fn store(w: &mut World, t: u8, k: usize, p: Plan)
     ensures { w.new ≡ own_plan w.old t k p }
 {
     put(&mut w.words, k, p.word);

@@ -5,7 +5,6 @@ use Rattle.calls.specs.declared.Event.{Event}
 use Rattle.calls.specs.declared.Event.TheVariants as E
 use Rattle.calls.specs.Positions.{call_of}
 use Rattle.tally.specs.declared.Tally.{Tally}
-use Rattle.tally.specs.declared.Bump.{Bump}
 
 -- the largest count
 abbrev pub MOST : ℕ
@@ -25,14 +24,14 @@ grants_of at = grant_call (call_of at)
 unfoldable pub up_by : ℕ → ℕ → ℕ
 up_by count more = cond (leb (count + more) MOST) (count + more) MOST
 
-abbrev pub bump : ℕ → ℕ → ℕ → ℕ → ℕ → Bump
+abbrev pub bump : ℕ → ℕ → ℕ → ℕ → ℕ → Tally
 bump grants sleeps wakes panics refused = record { grants = grants; sleeps = sleeps; wakes = wakes; panics = panics; refused = refused }
 
 unfoldable pub granted_of : Bool → ℕ → ℕ
 granted_of grant value = cond (grant && eqb value 1) 1 0
 
 -- what an event adds to grants, sleeps, wakes, panics and refused; `grant`: whether the call takes a lock
-unfoldable pub bump_of : Event → Bool → Bump
+unfoldable pub bump_of : Event → Bool → Tally
 bump_of E.Set grant = bump 0 0 0 0 0
 bump_of E.Begun grant = bump 0 0 0 0 0
 bump_of (E.Moved woken) grant = bump 0 0 woken 0 0
@@ -44,7 +43,7 @@ bump_of E.Woken grant = bump 0 0 1 0 0
 bump_of E.Closed grant = bump 0 0 0 0 0
 bump_of (E.Refused number) grant = bump 0 0 0 0 1
 
-abbrev pub plus : Tally → Bump → Tally
+abbrev pub plus : Tally → Tally → Tally
 plus t b = record {
   grants = up_by t.grants b.grants;
   sleeps = up_by t.sleeps b.sleeps;

@@ -3,12 +3,9 @@
 #![tactic(auto, unfolding(crate::specs::Tally::add_event, crate::specs::Tally::bump_of, crate::specs::Tally::granted_of, crate::specs::Tally::grants_of, crate::specs::Tally::up_by))]
 
 ghost use Rattle.std.specs.Prelude.{◌≡◌};
-ghost use Rattle.tally.specs.Tally.{up_by, granted_of, bump_of, no_tally, add_event, grants_of};
+ghost use Rattle.tally.specs.Tally.{bump_of, no_tally, add_event, grants_of};
 
-use calls::{At, Event};
-
-// The largest count.
-pub const MOST: u64 = 0xFFFF_FFFF_FFFF_FFFF;
+use calls::{At, Call, Event};
 
 #[derive(Clone, Copy)]
 pub struct Tally {
@@ -21,26 +18,66 @@ pub struct Tally {
     pub refused: u64,
 }
 
-// What one event adds to each count.
-#[derive(Clone, Copy)]
-pub struct Bump {
-    pub grants: u64,
-    pub sleeps: u64,
-    pub wakes: u64,
-    pub panics: u64,
-    pub refused: u64,
-}
+impl Tally {
+    // Nothing counted yet.
+    pub fn nothing() -> Tally
+        ensures { result ≡ no_tally }
+    {
+        Tally {
+            grants: 0,
+            sleeps: 0,
+            wakes: 0,
+            panics: 0,
+            refused: 0,
+        }
+    }
 
-// Nothing counted yet.
-pub fn nothing() -> Tally
-    ensures { result ≡ no_tally }
-{
-    Tally {
-        grants: 0,
-        sleeps: 0,
-        wakes: 0,
-        panics: 0,
-        refused: 0,
+    // What one event adds to each count; `grant`: whether the call takes a lock.
+    fn of(e: Event, grant: bool) -> Tally
+        ensures { result ≡ bump_of e grant }
+    {
+        let none = Tally::nothing();
+        match e {
+            Event::Moved { woken } => Tally {
+                wakes: u64::from(woken),
+                ..none
+            },
+            Event::Done { value, woken } => Tally {
+                grants: u64::from(grant && value == 1),
+                wakes: u64::from(woken),
+                ..none
+            },
+            Event::Slept => Tally { sleeps: 1, ..none },
+            Event::Panic { woken, .. } => Tally {
+                wakes: u64::from(woken),
+                panics: 1,
+                ..none
+            },
+            Event::Woken => Tally { wakes: 1, ..none },
+            Event::Refused { .. } => Tally { refused: 1, ..none },
+            Event::Set | Event::Begun | Event::Closure | Event::Closed => none,
+        }
+    }
+
+    // Adds an event.
+    pub fn add(&mut self, e: Event, grant: bool)
+        ensures { self.new ≡ add_event self.old e grant }
+    {
+        let more = Tally::of(e, grant);
+        self.grants = self.grants.saturating_add(more.grants);
+        self.sleeps = self.sleeps.saturating_add(more.sleeps);
+        self.wakes = self.wakes.saturating_add(more.wakes);
+        self.panics = self.panics.saturating_add(more.panics);
+        self.refused = self.refused.saturating_add(more.refused);
+    }
+
+    // The tally with an event added, for a caller that has it by value.
+    pub fn noted(self, e: Event, grant: bool) -> Tally
+        ensures { result ≡ add_event self e grant }
+    {
+        let mut t = self;
+        t.add(e, grant);
+        t
     }
 }
 
@@ -49,164 +86,8 @@ pub fn nothing() -> Tally
 pub fn grants(at: At) -> bool
     ensures { result ≡ grants_of at }
 {
-    let call = calls::call_of(at);
-    let lock = call == 0;
-    if lock {
-        return true;
-    }
-    let try_lock = call == 1;
-    if try_lock {
-        return true;
-    }
-    let read = call == 3;
-    if read {
-        return true;
-    }
-    let try_read = call == 4;
-    if try_read {
-        return true;
-    }
-    let write = call == 6;
-    if write {
-        return true;
-    }
-    call == 7
-}
-
-fn wide(n: u8) -> u64
-    ensures { result ≡ n }
-{
-    n as u64
-}
-
-// A count with more added to it.
-fn up(count: u64, more: u64) -> u64
-    ensures { result ≡ up_by count more }
-{
-    if more <= MOST - count {
-        return count + more;
-    }
-    MOST
-}
-
-// 1 where a done value is a grant.
-fn granted(grant: bool, value: u8) -> u64
-    ensures { result ≡ granted_of grant value }
-{
-    if grant {
-        let one = value == 1;
-        if one {
-            return 1;
-        }
-        return 0;
-    }
-    0
-}
-
-// What an event adds; `grant`: whether the call takes a lock.
-fn bump_of(e: Event, grant: bool) -> Bump
-    ensures { result ≡ bump_of e grant }
-{
-    match e {
-        Event::Set => Bump {
-            grants: 0,
-            sleeps: 0,
-            wakes: 0,
-            panics: 0,
-            refused: 0,
-        },
-        Event::Begun => Bump {
-            grants: 0,
-            sleeps: 0,
-            wakes: 0,
-            panics: 0,
-            refused: 0,
-        },
-        Event::Moved { woken } => Bump {
-            grants: 0,
-            sleeps: 0,
-            wakes: wide(woken),
-            panics: 0,
-            refused: 0,
-        },
-        Event::Done { value, woken } => Bump {
-            grants: granted(grant, value),
-            sleeps: 0,
-            wakes: wide(woken),
-            panics: 0,
-            refused: 0,
-        },
-        Event::Slept => Bump {
-            grants: 0,
-            sleeps: 1,
-            wakes: 0,
-            panics: 0,
-            refused: 0,
-        },
-        Event::Panic { number: _, woken } => Bump {
-            grants: 0,
-            sleeps: 0,
-            wakes: wide(woken),
-            panics: 1,
-            refused: 0,
-        },
-        Event::Closure => Bump {
-            grants: 0,
-            sleeps: 0,
-            wakes: 0,
-            panics: 0,
-            refused: 0,
-        },
-        Event::Woken => Bump {
-            grants: 0,
-            sleeps: 0,
-            wakes: 1,
-            panics: 0,
-            refused: 0,
-        },
-        Event::Closed => Bump {
-            grants: 0,
-            sleeps: 0,
-            wakes: 0,
-            panics: 0,
-            refused: 0,
-        },
-        Event::Refused { number: _ } => Bump {
-            grants: 0,
-            sleeps: 0,
-            wakes: 0,
-            panics: 0,
-            refused: 1,
-        },
-    }
-}
-
-// The tally with an event added.
-fn added(t: Tally, e: Event, grant: bool) -> Tally
-    ensures { result ≡ add_event t e grant }
-{
-    let b = bump_of(e, grant);
-    Tally {
-        grants: up(t.grants, b.grants),
-        sleeps: up(t.sleeps, b.sleeps),
-        wakes: up(t.wakes, b.wakes),
-        panics: up(t.panics, b.panics),
-        refused: up(t.refused, b.refused),
-    }
-}
-
-// Adds an event to a tally that is lent; `grant`: whether the call takes a lock.
-pub fn add(t: &mut Tally, e: Event, grant: bool)
-    ensures { t.new ≡ add_event t.old e grant }
-{
-    *t = added(*t, e, grant);
-}
-
-// A tally by value, lent to `add` and handed back: a caller with a tally of its own calls this one.
-pub fn noted(t: Tally, e: Event, grant: bool) -> Tally
-    ensures { result ≡ add_event t e grant }
-{
-    let mut u = t;
-    add(&mut u, e, grant);
-    u
+    matches!(
+        calls::call_of(at),
+        Some(Call::Lock | Call::TryLock | Call::Read | Call::TryRead | Call::Write | Call::TryWrite)
+    )
 }

@@ -1,14 +1,19 @@
-use Rattle.replay_log.proofs.Laws.{nothing_left, something-left}
+use mathlib.Core.Path.{sym, ◌∙◌}
+use Rattle.replay_log.proofs.Laws.{if-none, if-some, nothing_left, something-left}
 use Rattle.replay_log.proofs.put_finish.Goals as goal
 
-pub returns-then-refusal-eq0 : goal.returns-then-refusal-eq0
-returns-then-refusal-eq0 c =
-    let a = c.args in
-    let r = nothing_left a.out.now a.t a.number a.left c.finish-refusal.ensures c.if-refusal-eq0.true in
-    record { value = r.0; out_after = r.1 }
+pub returns-in-None-clause-value : goal.returns-in-None-clause-value
+returns-in-None-clause-value c = (nothing_left c.args.out.now c.args.t c.args.number c.args.left (if-none _ (sym c.in-None.is ∙ c.finish.ensures))).0
 
-pub returns : goal.returns
-returns c =
-    let a = c.args in
-    let r = something-left a.out.now a.t a.number a.left c.finish-refusal.ensures c.if-refusal-eq0.false _ _ _ c.put_line-end.ensures.value c.put_line-end.ensures.out_after c.noted-x.ensures in
-    record { value = r.0; out_after = r.1 }
+pub returns-in-None-clause-out_after : goal.returns-in-None-clause-out_after
+returns-in-None-clause-out_after c = (nothing_left c.args.out.now c.args.t c.args.number c.args.left (if-none _ (sym c.in-None.is ∙ c.finish.ensures))).1
+
+pub returns-in-Some-clause-value : goal.returns-in-Some-clause-value
+returns-in-Some-clause-value c =
+    (something-left c.args.out.now c.args.t c.args.number c.args.left c.in-Some.refusal _ _ _ (if-some _ _ (sym c.in-Some.is ∙ c.finish.ensures))
+    c.put_line.ensures.value c.put_line.ensures.out_after c.noted.ensures).0
+
+pub returns-in-Some-clause-out_after : goal.returns-in-Some-clause-out_after
+returns-in-Some-clause-out_after c =
+    (something-left c.args.out.now c.args.t c.args.number c.args.left c.in-Some.refusal _ _ _ (if-some _ _ (sym c.in-Some.is ∙ c.finish.ensures))
+    c.put_line.ensures.value c.put_line.ensures.out_after c.noted.ensures).1

@@ -1,11 +1,12 @@
-use Prim.Native.Nat.{◌-◌, ◌≤◌}
-use lib.ListN.{length}
-use Rattle.replay_log.specs.Run.{LAST, state_of}
+use Rattle.std.specs.Prelude.{◌≡◌, length}
+use Rattle.std.specs.Slice.Iter.{chunks_exact_size, chunks_exact_rest}
+use Rattle.replay_log.specs.Run.{state_of}
 use Rattle.replay_log.proofs.Laws.{Inv}
 use Rattle.replay_log.proofs.run.Given as goal
 
-abbrev pub invariant-loop-at : goal.invariant-loop-at
-invariant-loop-at l = (l.n ≤ LAST) × Inv l.sound l.log l.initial.out (state_of l.initial.v l.initial.u l.initial.n) l.out (state_of l.v l.u l.n) l.at l.end
-
-abbrev pub decreases-loop-at : goal.decreases-loop-at
-decreases-loop-at l = length l.log - l.at
+abbrev pub invariant-loop-record : goal.invariant-loop-record
+invariant-loop-record l =
+    (goal.iterator-loop-record).can_next l.record-iterator ×
+    (goal.iterator-loop-record).is_finite l.record-iterator ×
+    (chunks_exact_size l.record-iterator ≡ 10) ×
+    Inv l.sound l.log l.initial.out (state_of l.fn.w l.fn.t l.fn.number) l.out l.ran (chunks_exact_rest l.record-iterator)
