@@ -6,30 +6,19 @@ use Prim.Native.Nat.{ℕ}
 use lib.Dec.{eqb, ltb}
 use Rattle.words.specs.Parker.{PARKED}
 use Rattle.queue.specs.Row.{THREADS, place_of}
+use Rattle.words.specs.declared.Next.{Next}
+use Rattle.words.specs.declared.Next.TheVariants as Nx
+use Rattle.words.specs.declared.Step.{Step}
+use Rattle.words.specs.Steps.{map_step}
 use Rattle.mutex.specs.declared.MutexAt.{MutexAt}
-use Rattle.mutex.specs.declared.MutexStep.{MutexStep}
 use Rattle.rwlock.specs.declared.RwLockAt.{RwLockAt}
-use Rattle.rwlock.specs.declared.RwLockStep.{RwLockStep}
 use Rattle.condvar.specs.declared.CondvarAt.{CondvarAt}
-use Rattle.condvar.specs.declared.CondvarStep.{CondvarStep}
 use Rattle.once.specs.declared.OnceAt.{OnceAt}
-use Rattle.once.specs.declared.OnceStep.{OnceStep}
 use Rattle.thread_parking.specs.declared.ParkerAt.{ParkerAt}
-use Rattle.thread_parking.specs.declared.ParkerStep.{ParkerStep}
-use Rattle.mutex.specs.declared.MutexNext.{MutexNext}
-use Rattle.mutex.specs.declared.MutexNext.TheVariants as MxN
 use Rattle.mutex.specs.Mutex as Mx
-use Rattle.rwlock.specs.declared.RwLockNext.{RwLockNext}
-use Rattle.rwlock.specs.declared.RwLockNext.TheVariants as RwN
 use Rattle.rwlock.specs.RwLock as Rw
-use Rattle.condvar.specs.declared.CondvarNext.{CondvarNext}
-use Rattle.condvar.specs.declared.CondvarNext.TheVariants as CvN
 use Rattle.condvar.specs.Condvar as Cv
-use Rattle.once.specs.declared.OnceNext.{OnceNext}
-use Rattle.once.specs.declared.OnceNext.TheVariants as OnN
 use Rattle.once.specs.Once as On
-use Rattle.thread_parking.specs.declared.ParkerNext.{ParkerNext}
-use Rattle.thread_parking.specs.declared.ParkerNext.TheVariants as PkN
 use Rattle.thread_parking.specs.ThreadParking as Pk
 use Rattle.calls.specs.declared.At.{At}
 use Rattle.calls.specs.declared.At.TheVariants as A
@@ -38,7 +27,7 @@ use Rattle.calls.specs.declared.Event.TheVariants as E
 use Rattle.calls.specs.Events.{tell_of, of_refusal, is_refusal}
 use Rattle.calls.proofs.Events.{tell-kind}
 use Rattle.calls.specs.Objects.{WORDS}
-use Rattle.calls.specs.Plans.{moved, slept, done, panicked, entered, mutex_plan, rwlock_plan, condvar_plan, once_plan, parker_plan, mutex_next, rwlock_next, condvar_next, once_next, parker_next, decide_of}
+use Rattle.calls.specs.Plans.{moved, slept, done, panicked, entered, mutex_plan, rwlock_plan, condvar_plan, once_plan, parker_plan, decide_of, plan_next, plan_of}
 use Rattle.calls.specs.Positions.{operand_of}
 use Rattle.world.specs.declared.World.{World}
 use Rattle.world.specs.World.{thread_at, word_at, on_word}
@@ -65,62 +54,25 @@ tell-refusal : (e : Event) (n : ℕ) → is_refusal (tell_of e n) ≡ is_refusal
 tell-refusal e n = ap of_refusal (tell-kind e n)
 
 -- no plan is a refusal
-mutex-told : (m : ℕ) (p : MutexAt) (s : MutexStep) → is_refusal (mutex_plan m p s).event ≡ false
-unfolding mutex_plan moved slept done
-mutex-told m p s = by s.next
+planned-told : (at : At) (object : ℕ) (s : Step At) → is_refusal (plan_of at object s).event ≡ false
+unfolding plan_of moved slept done panicked entered
+planned-told at object s = by s.next
   where
-    by : (n : MutexNext) → is_refusal (mutex_next m p s.word s.hold s.wake n).event ≡ false
-    by (MxN.Moved q) = refl
-    by MxN.Asleep = refl
-    by (MxN.Ended v) = refl
-
-rwlock-told : (l : ℕ) (p : RwLockAt) (s : RwLockStep) → is_refusal (rwlock_plan l p s).event ≡ false
-unfolding rwlock_plan moved slept done panicked
-rwlock-told l p s = by s.next
-  where
-    by : (n : RwLockNext) → is_refusal (rwlock_next l p s.word s.hold s.wake n).event ≡ false
-    by (RwN.Moved q) = refl
-    by RwN.Asleep = refl
-    by (RwN.Ended v) = refl
-    by (RwN.Panic k) = refl
-
-condvar-told : (c : ℕ) (p : CondvarAt) (o : ℕ) (s : CondvarStep) → is_refusal (condvar_plan c p o s).event ≡ false
-unfolding condvar_plan moved slept done
-condvar-told c p o s = by s.next
-  where
-    by : (n : CondvarNext) → is_refusal (condvar_next c p o s.word s.hold s.wake n).event ≡ false
-    by (CvN.Moved q) = refl
-    by CvN.Asleep = refl
-    by (CvN.Ended v) = refl
-
-once-told : (o : ℕ) (p : OnceAt) (s : OnceStep) → is_refusal (once_plan o p s).event ≡ false
-unfolding once_plan moved slept done panicked entered
-once-told o p s = by s.next
-  where
-    by : (n : OnceNext) → is_refusal (once_next o p s.word s.wake n).event ≡ false
-    by (OnN.Moved q) = refl
-    by OnN.Asleep = refl
-    by (OnN.Ended v) = refl
-    by (OnN.Panic k) = refl
-    by (OnN.Closure q) = refl
-
-parker-told : (p : ParkerAt) (s : ParkerStep) → is_refusal (parker_plan p s).event ≡ false
-unfolding parker_plan moved slept done
-parker-told p s = by s.next
-  where
-    by : (n : ParkerNext) → is_refusal (parker_next p s.word s.wake n).event ≡ false
-    by (PkN.Moved q) = refl
-    by PkN.Asleep = refl
-    by (PkN.Ended v) = refl
+    by : (n : Next At) → is_refusal (plan_next at object s.word s.hold s.wake n).event ≡ false
+    by (Nx.Moved q) = refl
+    by Nx.Asleep = refl
+    by (Nx.Ended v) = refl
+    by (Nx.Panics k) = refl
+    by (Nx.Closure q) = refl
 
 plan-told : (at : At) (f : Bool) (word : ℕ) (a : Bool) → is_refusal (decide_of at f word a).event ≡ false
 unfolding decide_of moved
 plan-told A.Idle f word a = refl
-plan-told (A.Mutex m p) f word a = mutex-told m p (Mx.decide_of p f word a)
-plan-told (A.RwLock l p) f word a = rwlock-told l p (Rw.decide_of p f word a)
-plan-told (A.Condvar c p) f word a = condvar-told c p (Cv.object_of c p) (Cv.decide_of p f word a)
-plan-told (A.Once o p) f word a = once-told o p (On.decide_of p f word a)
-plan-told (A.Parker p) f word a = parker-told p (Pk.decide_of PARKED p f word a)
+plan-told (A.Mutex m p) f word a = planned-told (A.Mutex m p) m (map_step (A.Mutex m) (Mx.decide_of p f word a))
+plan-told (A.RwLock l p) f word a = planned-told (A.RwLock l p) l (map_step (A.RwLock l) (Rw.decide_of p f word a))
+plan-told (A.Condvar c p) f word a = planned-told (A.Condvar c p) (Cv.object_of c p) (map_step (A.Condvar c) (Cv.decide_of p f word a))
+plan-told (A.Once o p) f word a = planned-told (A.Once o p) 0 (map_step (A.Once o) (On.decide_of p f word a))
+plan-told (A.Parker p) f word a = planned-told (A.Parker p) 0 (map_step A.Parker (Pk.decide_of PARKED p f word a))
 
 -- an answer that is a refusal has the world as it was
 Keeps : World → Acted → Type 0

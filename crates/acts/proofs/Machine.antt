@@ -6,6 +6,7 @@ use Rattle.words.specs.Once as OnceWord
 use Rattle.words.specs.Parker as ParkerWord
 use Rattle.words.specs.RwLock as RwLockWord
 use Rattle.queue.specs.Row as Row
+use Rattle.words.specs.Steps as St
 use Rattle.mutex.specs.Mutex as Mutex
 use Rattle.thread_parking.specs.ThreadParking as Parker
 use Rattle.condvar.specs.Condvar as Condvar
@@ -42,23 +43,23 @@ unfolding RwLockWord.count RwLockWord.readers_waiting RwLockWord.writers_waiting
 opens-rw-lock-word = 0
 
 unfoldable opens_row : ℕ
-unfolding Row.passing Row.queue_of Row.row_of Row.pushed Row.push_of Row.removed_at Row.removed Row.taken_out Row.take_out_of Row.place_from Row.place_of Row.without_of Row.occ Row.all_zero Row.is_tidy
+unfolding Row.passing Row.queue_of Row.row_of Row.pushed Row.push_of Row.removed_at Row.removed Row.taken_out Row.take_out_of Row.place_of Row.without_of Row.occ Row.all_zero Row.is_tidy
 opens_row = 0
 
 unfoldable opens-mutex : ℕ
-unfolding Mutex.entry_of Mutex.moves Mutex.sleeps Mutex.takes Mutex.lock_after_wait Mutex.contended Mutex.spun Mutex.lock_of Mutex.try_lock_of Mutex.unlock_of Mutex.lock_step Mutex.unlock_step Mutex.decide_of Mutex.after_wait Mutex.operand_of Mutex.weak_next Mutex.lock_passed Mutex.passed_of Mutex.unlock_needs Mutex.needs_of Mutex.lock_waits Mutex.waits_of Mutex.unlock_may_wake Mutex.may_wake
+unfolding Mutex.entry_of Mutex.takes Mutex.lock_after_wait Mutex.contended Mutex.spun Mutex.lock_of Mutex.try_lock_of Mutex.unlock_of Mutex.decide_of Mutex.after_wait Mutex.operand_of Mutex.weak_next Mutex.lock_passed Mutex.passed_of Mutex.unlock_needs Mutex.needs_of Mutex.lock_waits Mutex.waits_of Mutex.unlock_may_wake Mutex.may_wake
 opens-mutex = 0
 
 unfoldable opens-parker : ℕ
-unfolding Parker.entry_of Parker.moves Parker.sleeps Parker.ends Parker.park_after_wait Parker.park_of Parker.unpark_of Parker.decide_of Parker.after_wait Parker.operand_of Parker.parker_of Parker.weak_next Parker.passed_of Parker.needs_of Parker.park_waits Parker.waits_of Parker.unpark_may_wake Parker.may_wake
+unfolding Parker.entry_of Parker.park_after_wait Parker.park_of Parker.unpark_of Parker.decide_of Parker.after_wait Parker.operand_of Parker.parker_of Parker.weak_next Parker.passed_of Parker.needs_of Parker.park_waits Parker.waits_of Parker.unpark_may_wake Parker.may_wake
 opens-parker = 0
 
 unfoldable opens-condvar : ℕ
-unfolding Condvar.entry_of Condvar.moves Condvar.sleeps Condvar.ends Condvar.wait_after_wait Condvar.unlock_step Condvar.relock_step Condvar.wait_of Condvar.notify_of Condvar.decide_of Condvar.after_wait Condvar.wait_operand Condvar.operand_of Condvar.wait_object Condvar.object_of Condvar.mutex_of Condvar.weak_next Condvar.wait_passed Condvar.passed_of Condvar.wait_needs Condvar.needs_of Condvar.wait_waits Condvar.waits_of Condvar.wait_may_wake Condvar.notify_may_wake Condvar.may_wake
+unfolding Condvar.entry_of Condvar.wait_after_wait Condvar.unlock_step Condvar.relock_step Condvar.wait_of Condvar.notify_of Condvar.decide_of Condvar.after_wait Condvar.wait_operand Condvar.operand_of Condvar.wait_object Condvar.object_of Condvar.mutex_of Condvar.weak_next Condvar.wait_passed Condvar.passed_of Condvar.wait_needs Condvar.needs_of Condvar.wait_waits Condvar.waits_of Condvar.wait_may_wake Condvar.notify_may_wake Condvar.may_wake
 opens-condvar = 0
 
 unfoldable opens-once : ℕ
-unfolding Once.entry_of Once.moves Once.sleeps Once.ends Once.panics Once.enters Once.queues Once.call_top Once.wait_top Once.drops_to Once.is_panicked Once.finishes Once.call_after_wait Once.wait_after_wait Once.call_of Once.wait_of Once.is_completed_of Once.decide_of Once.call_in_closure Once.in_closure Once.close_of Once.after_wait Once.operand_of Once.call_weak_next Once.wait_weak_next Once.weak_next Once.running_passed Once.call_passed Once.queued_passed Once.wait_passed Once.passed_of Once.needs_of Once.call_waits Once.wait_waits Once.waits_of Once.call_may_wake Once.may_wake
+unfolding Once.entry_of Once.queues Once.call_top Once.wait_top Once.drops_to Once.is_panicked Once.finishes Once.call_after_wait Once.wait_after_wait Once.call_of Once.wait_of Once.is_completed_of Once.decide_of Once.call_in_closure Once.in_closure Once.close_of Once.after_wait Once.operand_of Once.call_weak_next Once.wait_weak_next Once.weak_next Once.running_passed Once.call_passed Once.queued_passed Once.wait_passed Once.passed_of Once.needs_of Once.call_waits Once.wait_waits Once.waits_of Once.call_may_wake Once.may_wake
 opens-once = 0
 
 unfoldable opens-lock-at : ℕ
@@ -66,7 +67,7 @@ unfolding LockAt.after_wait LockAt.write_operand LockAt.wake_operand LockAt.oper
 opens-lock-at = 0
 
 unfoldable opens-rw-lock : ℕ
-unfolding RwLock.entry_of RwLock.moves_with RwLock.sleeps RwLock.ends RwLock.panics RwLock.read_after_wait RwLock.write_after_wait RwLock.try_read_top RwLock.try_read_of RwLock.may_read RwLock.read_top RwLock.stops_read RwLock.read_of RwLock.wake_rest RwLock.wake_top RwLock.read_unlock_of RwLock.try_write_top RwLock.try_write_of RwLock.write_unlock_of RwLock.downgrade_of RwLock.write_locked_with RwLock.write_top RwLock.stops_write RwLock.write_of RwLock.wake_of RwLock.decide_of
+unfolding RwLock.entry_of RwLock.read_after_wait RwLock.write_after_wait RwLock.try_read_top RwLock.try_read_of RwLock.may_read RwLock.read_top RwLock.stops_read RwLock.read_of RwLock.wake_rest RwLock.wake_top RwLock.read_unlock_of RwLock.try_write_top RwLock.try_write_of RwLock.write_unlock_of RwLock.downgrade_of RwLock.write_locked_with RwLock.write_top RwLock.stops_write RwLock.write_of RwLock.wake_of RwLock.decide_of
 opens-rw-lock = 0
 
 unfoldable opens-events : ℕ
@@ -78,7 +79,7 @@ unfolding Objects.word_of
 opens-objects = 0
 
 unfoldable opens-plans : ℕ
-unfolding Plans.moved Plans.slept Plans.done Plans.panicked Plans.entered Plans.mutex_plan Plans.rwlock_plan Plans.condvar_plan Plans.once_plan Plans.parker_plan Plans.decide_of
+unfolding Plans.moved Plans.slept Plans.done Plans.panicked Plans.entered Plans.plan_of Plans.decide_of
 opens-plans = 0
 
 unfoldable opens-positions : ℕ

@@ -5,26 +5,16 @@ use Rattle.words.specs.declared.Hold.{Hold}
 use Rattle.words.specs.declared.Hold.TheVariants as H
 use Rattle.words.specs.declared.Wake.{Wake}
 use Rattle.words.specs.declared.Wake.TheVariants as W
+use Rattle.words.specs.declared.Next.{Next}
+use Rattle.words.specs.declared.Next.TheVariants as Nx
+use Rattle.words.specs.declared.Step.{Step}
+use Rattle.words.specs.Panic.{number_of}
+use Rattle.words.specs.Steps.{map_step}
 use Rattle.mutex.specs.declared.MutexAt.{MutexAt}
-use Rattle.mutex.specs.declared.MutexStep.{MutexStep}
-use Rattle.mutex.specs.declared.MutexNext.{MutexNext}
-use Rattle.mutex.specs.declared.MutexNext.TheVariants as MxN
 use Rattle.rwlock.specs.declared.RwLockAt.{RwLockAt}
-use Rattle.rwlock.specs.declared.RwLockStep.{RwLockStep}
-use Rattle.rwlock.specs.declared.RwLockNext.{RwLockNext}
-use Rattle.rwlock.specs.declared.RwLockNext.TheVariants as RwN
 use Rattle.condvar.specs.declared.CondvarAt.{CondvarAt}
-use Rattle.condvar.specs.declared.CondvarStep.{CondvarStep}
-use Rattle.condvar.specs.declared.CondvarNext.{CondvarNext}
-use Rattle.condvar.specs.declared.CondvarNext.TheVariants as CvN
 use Rattle.once.specs.declared.OnceAt.{OnceAt}
-use Rattle.once.specs.declared.OnceStep.{OnceStep}
-use Rattle.once.specs.declared.OnceNext.{OnceNext}
-use Rattle.once.specs.declared.OnceNext.TheVariants as OnN
 use Rattle.thread_parking.specs.declared.ParkerAt.{ParkerAt}
-use Rattle.thread_parking.specs.declared.ParkerStep.{ParkerStep}
-use Rattle.thread_parking.specs.declared.ParkerNext.{ParkerNext}
-use Rattle.thread_parking.specs.declared.ParkerNext.TheVariants as PkN
 use Rattle.mutex.specs.Mutex as Mx
 use Rattle.rwlock.specs.RwLock as Rw
 use Rattle.condvar.specs.Condvar as Cv
@@ -59,56 +49,35 @@ done word value hold object wake = record { word = word; next = idle; hold = hol
 unfoldable pub panicked : ℕ → ℕ → Hold → ℕ → Wake → Plan
 panicked word number hold object wake = record { word = word; next = idle; hold = hold; object = object; wake = wake; event = E.Panic number 0 }
 
-unfoldable pub entered : ℕ → At → Wake → Plan
-entered word at wake = record { word = word; next = awake at; hold = H.Same; object = 0; wake = wake; event = E.Closure }
+unfoldable pub entered : ℕ → At → Hold → ℕ → Wake → Plan
+entered word at hold object wake = record { word = word; next = awake at; hold = hold; object = object; wake = wake; event = E.Closure }
 
--- mutex
-abbrev pub mutex_next : ℕ → MutexAt → ℕ → Hold → Wake → MutexNext → Plan
-mutex_next mutex p word hold wake (MxN.Moved q) = moved word (A.Mutex mutex q) hold mutex wake
-mutex_next mutex p word hold wake MxN.Asleep = slept word (A.Mutex mutex p) hold mutex wake
-mutex_next mutex p word hold wake (MxN.Ended value) = done word value hold mutex wake
+-- a step as what the thread at `at` does, about the hold of an object
+abbrev pub plan_next : At → ℕ → ℕ → Hold → Wake → Next At → Plan
+plan_next at object word hold wake (Nx.Moved q) = moved word q hold object wake
+plan_next at object word hold wake Nx.Asleep = slept word at hold object wake
+plan_next at object word hold wake (Nx.Ended value) = done word value hold object wake
+plan_next at object word hold wake (Nx.Panics panic) = panicked word (number_of panic) hold object wake
+plan_next at object word hold wake (Nx.Closure q) = entered word q hold object wake
 
-unfoldable pub mutex_plan : ℕ → MutexAt → MutexStep → Plan
-mutex_plan mutex p s = mutex_next mutex p s.word s.hold s.wake s.next
+unfoldable pub plan_of : At → ℕ → Step At → Plan
+plan_of at object s = plan_next at object s.word s.hold s.wake s.next
 
--- rwlock
-abbrev pub rwlock_next : ℕ → RwLockAt → ℕ → Hold → Wake → RwLockNext → Plan
-rwlock_next lock p word hold wake (RwN.Moved q) = moved word (A.RwLock lock q) hold lock wake
-rwlock_next lock p word hold wake RwN.Asleep = slept word (A.RwLock lock p) hold lock wake
-rwlock_next lock p word hold wake (RwN.Ended value) = done word value hold lock wake
-rwlock_next lock p word hold wake (RwN.Panic number) = panicked word number hold lock wake
+-- each module's step so
+abbrev pub mutex_plan : ℕ → MutexAt → Step MutexAt → Plan
+mutex_plan mutex p s = plan_of (A.Mutex mutex p) mutex (map_step (A.Mutex mutex) s)
 
-unfoldable pub rwlock_plan : ℕ → RwLockAt → RwLockStep → Plan
-rwlock_plan lock p s = rwlock_next lock p s.word s.hold s.wake s.next
+abbrev pub rwlock_plan : ℕ → RwLockAt → Step RwLockAt → Plan
+rwlock_plan lock p s = plan_of (A.RwLock lock p) lock (map_step (A.RwLock lock) s)
 
--- condvar
-abbrev pub condvar_next : ℕ → CondvarAt → ℕ → ℕ → Hold → Wake → CondvarNext → Plan
-condvar_next condvar p object word hold wake (CvN.Moved q) = moved word (A.Condvar condvar q) hold object wake
-condvar_next condvar p object word hold wake CvN.Asleep = slept word (A.Condvar condvar p) hold object wake
-condvar_next condvar p object word hold wake (CvN.Ended value) = done word value hold object wake
+abbrev pub condvar_plan : ℕ → CondvarAt → ℕ → Step CondvarAt → Plan
+condvar_plan condvar p object s = plan_of (A.Condvar condvar p) object (map_step (A.Condvar condvar) s)
 
-unfoldable pub condvar_plan : ℕ → CondvarAt → ℕ → CondvarStep → Plan
-condvar_plan condvar p object s = condvar_next condvar p object s.word s.hold s.wake s.next
+abbrev pub once_plan : ℕ → OnceAt → Step OnceAt → Plan
+once_plan once p s = plan_of (A.Once once p) 0 (map_step (A.Once once) s)
 
--- once
-abbrev pub once_next : ℕ → OnceAt → ℕ → Wake → OnceNext → Plan
-once_next once p word wake (OnN.Moved q) = moved word (A.Once once q) H.Same 0 wake
-once_next once p word wake OnN.Asleep = slept word (A.Once once p) H.Same 0 wake
-once_next once p word wake (OnN.Ended value) = done word value H.Same 0 wake
-once_next once p word wake (OnN.Panic number) = panicked word number H.Same 0 wake
-once_next once p word wake (OnN.Closure q) = entered word (A.Once once q) wake
-
-unfoldable pub once_plan : ℕ → OnceAt → OnceStep → Plan
-once_plan once p s = once_next once p s.word s.wake s.next
-
--- thread_parking
-abbrev pub parker_next : ParkerAt → ℕ → Wake → ParkerNext → Plan
-parker_next p word wake (PkN.Moved q) = moved word (A.Parker q) H.Same 0 wake
-parker_next p word wake PkN.Asleep = slept word (A.Parker p) H.Same 0 wake
-parker_next p word wake (PkN.Ended value) = done word value H.Same 0 wake
-
-unfoldable pub parker_plan : ParkerAt → ParkerStep → Plan
-parker_plan p s = parker_next p s.word s.wake s.next
+abbrev pub parker_plan : ParkerAt → Step ParkerAt → Plan
+parker_plan p s = plan_of (A.Parker p) 0 (map_step A.Parker s)
 
 -- one step of a thread at a position, over the word that it is about; `anyone`: whether somebody is asleep on that word.
 -- An idle thread has no step: it stays.

@@ -1,23 +1,23 @@
 // Calls over the five modules: where a thread stands in which call on which object, what its next step
 // does, and what an act answers. A module's step becomes the call's here: its end the call's end, its word
 // a number in the row of all words.
-#![tactic(auto, unfolding(crate::specs::Events::tell_of, crate::specs::Events::value_of, crate::specs::Events::woken_of, crate::specs::Objects::word_of, crate::specs::Plans::condvar_plan, crate::specs::Plans::decide_of, crate::specs::Plans::done, crate::specs::Plans::entered, crate::specs::Plans::moved, crate::specs::Plans::mutex_plan, crate::specs::Plans::once_plan, crate::specs::Plans::panicked, crate::specs::Plans::parker_plan, crate::specs::Plans::rwlock_plan, crate::specs::Plans::slept, crate::specs::Positions::after_wait, crate::specs::Positions::call_of, crate::specs::Positions::condvar_call, crate::specs::Positions::condvar_exists, crate::specs::Positions::entry_of, crate::specs::Positions::exists, crate::specs::Positions::in_closure, crate::specs::Positions::is_idle, crate::specs::Positions::may_wake, crate::specs::Positions::mutex_call, crate::specs::Positions::need_of, crate::specs::Positions::once_call, crate::specs::Positions::operand_of, crate::specs::Positions::parker_call, crate::specs::Positions::parker_exists, crate::specs::Positions::passed_of, crate::specs::Positions::rwlock_call, crate::specs::Positions::waits_of, crate::specs::Positions::weak_next))]
+#![tactic(auto, unfolding(crate::specs::Plans::plan_of, crate::specs::Events::tell_of, crate::specs::Events::value_of, crate::specs::Events::woken_of, crate::specs::Objects::word_of, crate::specs::Plans::decide_of, crate::specs::Plans::done, crate::specs::Plans::entered, crate::specs::Plans::moved, crate::specs::Plans::panicked, crate::specs::Plans::slept, crate::specs::Positions::after_wait, crate::specs::Positions::call_of, crate::specs::Positions::condvar_call, crate::specs::Positions::condvar_exists, crate::specs::Positions::entry_of, crate::specs::Positions::exists, crate::specs::Positions::in_closure, crate::specs::Positions::is_idle, crate::specs::Positions::may_wake, crate::specs::Positions::mutex_call, crate::specs::Positions::need_of, crate::specs::Positions::once_call, crate::specs::Positions::operand_of, crate::specs::Positions::parker_call, crate::specs::Positions::parker_exists, crate::specs::Positions::passed_of, crate::specs::Positions::rwlock_call, crate::specs::Positions::waits_of, crate::specs::Positions::weak_next))]
 
-ghost use Rattle.std.specs.Prelude.{◌≡◌, cond};
+ghost use Rattle.std.specs.Prelude.{◌≡◌};
 ghost use Rattle.calls.specs.Objects.{WORDS, size_of, base_of, word_of};
 ghost use Rattle.words.specs.Found.{found};
 ghost use Rattle.calls.specs.Calls.{Names, number_of, told_call};
 ghost use Rattle.calls.specs.Events.{value_of, woken_of, tell_of};
-ghost use Rattle.calls.specs.Plans.{moved, slept, done, panicked, entered, mutex_plan, rwlock_plan, condvar_plan, once_plan, parker_plan, decide_of};
+ghost use Rattle.calls.specs.Plans.{plan_of, decide_of};
 ghost use Rattle.calls.specs.Positions.{entry_of, mutex_call, rwlock_call, condvar_call, once_call, parker_call, call_of, operand_of, after_wait, waits_of, may_wake, weak_next, passed_of, is_idle, in_closure, need_of, condvar_exists, parker_exists, exists};
 
-use condvar::{CondvarAt, CondvarCall, CondvarNext, CondvarStep};
-use mutex::{MutexAt, MutexCall, MutexNext, MutexStep};
-use once::{OnceAt, OnceCall, OnceNext, OnceStep};
+use condvar::{CondvarAt, CondvarCall};
+use mutex::{MutexAt, MutexCall};
+use once::{OnceAt, OnceCall};
 use queue::THREADS;
-use rwlock::{RwLockAt, RwLockCall, RwLockNext, RwLockStep};
-use thread_parking::{ParkerAt, ParkerCall, ParkerNext, ParkerStep};
-use words::{Hold, Kind, Needs, Wake};
+use rwlock::{RwLockAt, RwLockCall};
+use thread_parking::{ParkerAt, ParkerCall};
+use words::{Hold, Kind, Needs, Next, Step, Wake};
 
 // How many objects of each kind there are.
 pub const MUTEXES: usize = 4;
@@ -191,16 +191,9 @@ pub fn value(event: Event) -> u8
     ensures { result ≡ value_of event }
 {
     match event {
-        Event::Set => 0,
-        Event::Begun => 0,
-        Event::Moved { woken: _ } => 0,
-        Event::Done { value, woken: _ } => value,
-        Event::Slept => 0,
-        Event::Panic { number, woken: _ } => number,
-        Event::Closure => 0,
-        Event::Woken => 0,
-        Event::Closed => 0,
-        Event::Refused { number } => number,
+        Event::Done { value, .. } => value,
+        Event::Panic { number, .. } | Event::Refused { number } => number,
+        _ => 0,
     }
 }
 
@@ -209,16 +202,9 @@ pub fn woken(event: Event) -> u8
     ensures { result ≡ woken_of event }
 {
     match event {
-        Event::Set => 0,
-        Event::Begun => 0,
-        Event::Moved { woken } => woken,
-        Event::Done { value: _, woken } => woken,
-        Event::Slept => 0,
-        Event::Panic { number: _, woken } => woken,
-        Event::Closure => 0,
+        Event::Moved { woken } | Event::Done { woken, .. } | Event::Panic { woken, .. } => woken,
         Event::Woken => 1,
-        Event::Closed => 0,
-        Event::Refused { number: _ } => 0,
+        _ => 0,
     }
 }
 
@@ -226,216 +212,38 @@ pub fn woken(event: Event) -> u8
 pub fn tell(event: Event, count: u8) -> Event
     ensures { result ≡ tell_of event count }
 {
+    let woken = count;
     match event {
-        Event::Set => Event::Set,
-        Event::Begun => Event::Begun,
-        Event::Moved { woken: _ } => Event::Moved { woken: count },
-        Event::Done { value, woken: _ } => Event::Done {
-            value: value,
-            woken: count,
-        },
-        Event::Slept => Event::Slept,
-        Event::Panic { number, woken: _ } => Event::Panic {
-            number: number,
-            woken: count,
-        },
-        Event::Closure => Event::Closure,
-        Event::Woken => Event::Woken,
-        Event::Closed => Event::Closed,
-        Event::Refused { number } => Event::Refused { number: number },
+        Event::Moved { .. } => Event::Moved { woken },
+        Event::Done { value, .. } => Event::Done { value, woken },
+        Event::Panic { number, .. } => Event::Panic { number, woken },
+        other => other,
     }
 }
 
-fn moved(word: u32, at: At, hold: Hold, object: u8, wake: Wake) -> Plan
-    ensures { result ≡ moved word at hold object wake }
+// A step as what the thread at `at` does; an object's hold changes.
+fn planned(at: At, object: u8, s: Step<At>) -> Plan
+    ensures { result ≡ plan_of at object s }
 {
+    let awake = |at| Thread { at, asleep: false };
+    let asleep = Thread { at, asleep: true };
+    let (next, event) = match s.next {
+        Next::Moved(at) => (awake(at), Event::Moved { woken: 0 }),
+        Next::Asleep => (asleep, Event::Slept),
+        Next::Ended(value) => (awake(At::Idle), Event::Done { value, woken: 0 }),
+        Next::Panics(panic) => {
+            let number = panic.number();
+            (awake(At::Idle), Event::Panic { number, woken: 0 })
+        }
+        Next::Closure(at) => (awake(at), Event::Closure),
+    };
     Plan {
-        word: word,
-        next: Thread {
-            at: at,
-            asleep: false,
-        },
-        hold: hold,
-        object: object,
-        wake: wake,
-        event: Event::Moved { woken: 0 },
-    }
-}
-
-fn slept(word: u32, at: At, hold: Hold, object: u8, wake: Wake) -> Plan
-    ensures { result ≡ slept word at hold object wake }
-{
-    Plan {
-        word: word,
-        next: Thread {
-            at: at,
-            asleep: true,
-        },
-        hold: hold,
-        object: object,
-        wake: wake,
-        event: Event::Slept,
-    }
-}
-
-fn done(word: u32, value: u8, hold: Hold, object: u8, wake: Wake) -> Plan
-    ensures { result ≡ done word value hold object wake }
-{
-    Plan {
-        word: word,
-        next: Thread {
-            at: At::Idle,
-            asleep: false,
-        },
-        hold: hold,
-        object: object,
-        wake: wake,
-        event: Event::Done {
-            value: value,
-            woken: 0,
-        },
-    }
-}
-
-fn panicked(word: u32, number: u8, hold: Hold, object: u8, wake: Wake) -> Plan
-    ensures { result ≡ panicked word number hold object wake }
-{
-    Plan {
-        word: word,
-        next: Thread {
-            at: At::Idle,
-            asleep: false,
-        },
-        hold: hold,
-        object: object,
-        wake: wake,
-        event: Event::Panic {
-            number: number,
-            woken: 0,
-        },
-    }
-}
-
-fn entered(word: u32, at: At, wake: Wake) -> Plan
-    ensures { result ≡ entered word at wake }
-{
-    Plan {
-        word: word,
-        next: Thread {
-            at: at,
-            asleep: false,
-        },
-        hold: Hold::Same,
-        object: 0,
-        wake: wake,
-        event: Event::Closure,
-    }
-}
-
-// A step of the Mutex's as one of the call.
-fn mutex_plan(mutex: u8, p: MutexAt, s: MutexStep) -> Plan
-    ensures { result ≡ mutex_plan mutex p s }
-{
-    let next = s.next;
-    let hold = s.hold;
-    let wake = s.wake;
-    match next {
-        MutexNext::Moved(q) => moved(
-            s.word,
-            At::Mutex {
-                mutex: mutex,
-                at: q,
-            },
-            hold,
-            mutex,
-            wake,
-        ),
-        MutexNext::Asleep => slept(
-            s.word,
-            At::Mutex {
-                mutex: mutex,
-                at: p,
-            },
-            hold,
-            mutex,
-            wake,
-        ),
-        MutexNext::Ended(value) => done(s.word, value, hold, mutex, wake),
-    }
-}
-
-// A step of the RwLock's as one of the call.
-fn rwlock_plan(lock: u8, p: RwLockAt, s: RwLockStep) -> Plan
-    ensures { result ≡ rwlock_plan lock p s }
-{
-    let next = s.next;
-    let hold = s.hold;
-    let wake = s.wake;
-    match next {
-        RwLockNext::Moved(q) => moved(s.word, At::RwLock { lock: lock, at: q }, hold, lock, wake),
-        RwLockNext::Asleep => slept(s.word, At::RwLock { lock: lock, at: p }, hold, lock, wake),
-        RwLockNext::Ended(value) => done(s.word, value, hold, lock, wake),
-        RwLockNext::Panic(number) => panicked(s.word, number, hold, lock, wake),
-    }
-}
-
-// A step of the Condvar's as one of the call.
-fn condvar_plan(condvar: u8, p: CondvarAt, object: u8, s: CondvarStep) -> Plan
-    ensures { result ≡ condvar_plan condvar p object s }
-{
-    let next = s.next;
-    let hold = s.hold;
-    let wake = s.wake;
-    match next {
-        CondvarNext::Moved(q) => moved(
-            s.word,
-            At::Condvar {
-                condvar: condvar,
-                at: q,
-            },
-            hold,
-            object,
-            wake,
-        ),
-        CondvarNext::Asleep => slept(
-            s.word,
-            At::Condvar {
-                condvar: condvar,
-                at: p,
-            },
-            hold,
-            object,
-            wake,
-        ),
-        CondvarNext::Ended(value) => done(s.word, value, hold, object, wake),
-    }
-}
-
-// A step of the Once's as one of the call.
-fn once_plan(once: u8, p: OnceAt, s: OnceStep) -> Plan
-    ensures { result ≡ once_plan once p s }
-{
-    let next = s.next;
-    let wake = s.wake;
-    match next {
-        OnceNext::Moved(q) => moved(s.word, At::Once { once: once, at: q }, Hold::Same, 0, wake),
-        OnceNext::Asleep => slept(s.word, At::Once { once: once, at: p }, Hold::Same, 0, wake),
-        OnceNext::Ended(value) => done(s.word, value, Hold::Same, 0, wake),
-        OnceNext::Panic(number) => panicked(s.word, number, Hold::Same, 0, wake),
-        OnceNext::Closure(q) => entered(s.word, At::Once { once: once, at: q }, wake),
-    }
-}
-
-// A step of the Parker's as one of the call.
-fn parker_plan(p: ParkerAt, s: ParkerStep) -> Plan
-    ensures { result ≡ parker_plan p s }
-{
-    let next = s.next;
-    let wake = s.wake;
-    match next {
-        ParkerNext::Moved(q) => moved(s.word, At::Parker { at: q }, Hold::Same, 0, wake),
-        ParkerNext::Asleep => slept(s.word, At::Parker { at: p }, Hold::Same, 0, wake),
-        ParkerNext::Ended(value) => done(s.word, value, Hold::Same, 0, wake),
+        word: s.word,
+        next,
+        hold: s.hold,
+        object,
+        wake: s.wake,
+        event,
     }
 }
 
@@ -445,17 +253,28 @@ pub fn decide(at: At, fails: bool, word: u32, anyone: bool) -> Plan
     ensures { result ≡ decide_of at fails word anyone }
 {
     match at {
-        At::Idle => moved(word, At::Idle, Hold::Same, 0, Wake::None),
-        At::Mutex { mutex, at: p } => mutex_plan(mutex, p, mutex::decide(p, fails, word, anyone)),
-        At::RwLock { lock, at: p } => rwlock_plan(lock, p, rwlock::decide(p, fails, word, anyone)),
-        At::Condvar { condvar, at: p } => condvar_plan(
-            condvar,
-            p,
-            condvar::object(condvar, p),
-            condvar::decide(p, fails, word, anyone),
-        ),
-        At::Once { once, at: p } => once_plan(once, p, once::decide(p, fails, word, anyone)),
-        At::Parker { at: p } => parker_plan(p, thread_parking::decide(p, fails, word, anyone)),
+        At::Idle => planned(at, 0, Step::moves(word, at)),
+        At::Mutex { mutex, at: p } => {
+            let step = mutex::decide(p, fails, word, anyone);
+            planned(at, mutex, step.map(|at| At::Mutex { mutex, at }))
+        }
+        At::RwLock { lock, at: p } => {
+            let step = rwlock::decide(p, fails, word, anyone);
+            planned(at, lock, step.map(|at| At::RwLock { lock, at }))
+        }
+        At::Condvar { condvar, at: p } => {
+            let step = condvar::decide(p, fails, word, anyone);
+            let object = condvar::object(condvar, p);
+            planned(at, object, step.map(|at| At::Condvar { condvar, at }))
+        }
+        At::Once { once, at: p } => {
+            let step = once::decide(p, fails, word, anyone);
+            planned(at, 0, step.map(|at| At::Once { once, at }))
+        }
+        At::Parker { at: p } => {
+            let step = thread_parking::decide(p, fails, word, anyone);
+            planned(at, 0, step.map(|at| At::Parker { at }))
+        }
     }
 }
 
@@ -610,24 +429,24 @@ pub fn after_wait(at: At) -> At
 {
     match at {
         At::Idle => At::Idle,
-        At::Mutex { mutex, at: p } => At::Mutex {
-            mutex: mutex,
-            at: mutex::after_wait(p),
+        At::Mutex { mutex, at } => At::Mutex {
+            mutex,
+            at: mutex::after_wait(at),
         },
-        At::RwLock { lock, at: p } => At::RwLock {
-            lock: lock,
-            at: rwlock::after_wait(p),
+        At::RwLock { lock, at } => At::RwLock {
+            lock,
+            at: rwlock::after_wait(at),
         },
-        At::Condvar { condvar, at: p } => At::Condvar {
-            condvar: condvar,
-            at: condvar::after_wait(p),
+        At::Condvar { condvar, at } => At::Condvar {
+            condvar,
+            at: condvar::after_wait(at),
         },
-        At::Once { once, at: p } => At::Once {
-            once: once,
-            at: once::after_wait(p),
+        At::Once { once, at } => At::Once {
+            once,
+            at: once::after_wait(at),
         },
-        At::Parker { at: p } => At::Parker {
-            at: thread_parking::after_wait(p),
+        At::Parker { at } => At::Parker {
+            at: thread_parking::after_wait(at),
         },
     }
 }
@@ -638,11 +457,11 @@ pub fn waits(at: At) -> bool
 {
     match at {
         At::Idle => false,
-        At::Mutex { mutex: _, at: p } => mutex::waits(p),
-        At::RwLock { lock: _, at: p } => rwlock::waits(p),
-        At::Condvar { condvar: _, at: p } => condvar::waits(p),
-        At::Once { once: _, at: p } => once::waits(p),
-        At::Parker { at: p } => thread_parking::waits(p),
+        At::Mutex { at, .. } => mutex::waits(at),
+        At::RwLock { at, .. } => rwlock::waits(at),
+        At::Condvar { at, .. } => condvar::waits(at),
+        At::Once { at, .. } => once::waits(at),
+        At::Parker { at } => thread_parking::waits(at),
     }
 }
 
@@ -652,11 +471,11 @@ pub fn may_wake(at: At) -> bool
 {
     match at {
         At::Idle => false,
-        At::Mutex { mutex: _, at: p } => mutex::may_wake(p),
-        At::RwLock { lock: _, at: p } => rwlock::may_wake(p),
-        At::Condvar { condvar: _, at: p } => condvar::may_wake(p),
-        At::Once { once: _, at: p } => once::may_wake(p),
-        At::Parker { at: p } => thread_parking::may_wake(p),
+        At::Mutex { at, .. } => mutex::may_wake(at),
+        At::RwLock { at, .. } => rwlock::may_wake(at),
+        At::Condvar { at, .. } => condvar::may_wake(at),
+        At::Once { at, .. } => once::may_wake(at),
+        At::Parker { at } => thread_parking::may_wake(at),
     }
 }
 
@@ -666,11 +485,11 @@ pub fn weak_next(at: At) -> bool
 {
     match at {
         At::Idle => false,
-        At::Mutex { mutex: _, at: p } => mutex::weak_next(p),
-        At::RwLock { lock: _, at: p } => rwlock::weak_next(p),
-        At::Condvar { condvar: _, at: p } => condvar::weak_next(p),
-        At::Once { once: _, at: p } => once::weak_next(p),
-        At::Parker { at: p } => thread_parking::weak_next(p),
+        At::Mutex { at, .. } => mutex::weak_next(at),
+        At::RwLock { at, .. } => rwlock::weak_next(at),
+        At::Condvar { at, .. } => condvar::weak_next(at),
+        At::Once { at, .. } => once::weak_next(at),
+        At::Parker { at } => thread_parking::weak_next(at),
     }
 }
 
@@ -680,11 +499,11 @@ pub fn passed(at: At) -> bool
 {
     match at {
         At::Idle => true,
-        At::Mutex { mutex: _, at: p } => mutex::passed(p),
-        At::RwLock { lock: _, at: p } => rwlock::passed(p),
-        At::Condvar { condvar: _, at: p } => condvar::passed(p),
-        At::Once { once: _, at: p } => once::passed(p),
-        At::Parker { at: p } => thread_parking::passed(p),
+        At::Mutex { at, .. } => mutex::passed(at),
+        At::RwLock { at, .. } => rwlock::passed(at),
+        At::Condvar { at, .. } => condvar::passed(at),
+        At::Once { at, .. } => once::passed(at),
+        At::Parker { at } => thread_parking::passed(at),
     }
 }
 
@@ -692,14 +511,7 @@ pub fn passed(at: At) -> bool
 pub fn is_idle(at: At) -> bool
     ensures { result ≡ is_idle at }
 {
-    match at {
-        At::Idle => true,
-        At::Mutex { mutex: _, at: _ } => false,
-        At::RwLock { lock: _, at: _ } => false,
-        At::Condvar { condvar: _, at: _ } => false,
-        At::Once { once: _, at: _ } => false,
-        At::Parker { at: _ } => false,
-    }
+    matches!(at, At::Idle)
 }
 
 // Whether a thread is in a Once's closure.
@@ -707,12 +519,8 @@ pub fn in_closure(at: At) -> bool
     ensures { result ≡ in_closure at }
 {
     match at {
-        At::Idle => false,
-        At::Mutex { mutex: _, at: _ } => false,
-        At::RwLock { lock: _, at: _ } => false,
-        At::Condvar { condvar: _, at: _ } => false,
-        At::Once { once: _, at: p } => once::in_closure(p),
-        At::Parker { at: _ } => false,
+        At::Once { at, .. } => once::in_closure(at),
+        _ => false,
     }
 }
 
@@ -720,40 +528,23 @@ pub fn in_closure(at: At) -> bool
 pub fn needs(at: At) -> Need
     ensures { result ≡ need_of at }
 {
-    match at {
-        At::Idle => Need {
-            hold: Needs::Nothing,
-            object: 0,
-        },
-        At::Mutex { mutex, at: p } => Need {
-            hold: mutex::needs(p),
-            object: mutex,
-        },
-        At::RwLock { lock, at: p } => Need {
-            hold: rwlock::needs(p),
-            object: lock,
-        },
-        At::Condvar { condvar: _, at: p } => Need {
-            hold: condvar::needs(p),
-            object: condvar::mutex_of(p),
-        },
-        At::Once { once, at: p } => Need {
-            hold: once::needs(p),
-            object: once,
-        },
-        At::Parker { at: p } => Need {
-            hold: thread_parking::needs(p),
-            object: 0,
-        },
-    }
+    let (hold, object) = match at {
+        At::Idle => (Needs::Nothing, 0),
+        At::Mutex { mutex, at } => (mutex::needs(at), mutex),
+        At::RwLock { lock, at } => (rwlock::needs(at), lock),
+        At::Condvar { at, .. } => (condvar::needs(at), condvar::mutex_of(at)),
+        At::Once { once, at } => (once::needs(at), once),
+        At::Parker { at } => (thread_parking::needs(at), 0),
+    };
+    Need { hold, object }
 }
 
 fn condvar_exists(at: CondvarAt) -> bool
     ensures { result ≡ condvar_exists at }
 {
     match at {
-        CondvarAt::Wait { mutex, at: _ } => (mutex as usize) < MUTEXES,
-        CondvarAt::Notify { all: _, at: _ } => true,
+        CondvarAt::Wait { mutex, .. } => usize::from(mutex) < MUTEXES,
+        CondvarAt::Notify { .. } => true,
     }
 }
 
@@ -761,19 +552,9 @@ fn parker_exists(at: ParkerAt) -> bool
     ensures { result ≡ parker_exists at }
 {
     match at {
-        ParkerAt::Park { at: _ } => true,
-        ParkerAt::Unpark { thread, at: _ } => (thread as usize) < THREADS,
+        ParkerAt::Park { .. } => true,
+        ParkerAt::Unpark { thread, .. } => usize::from(thread) < THREADS,
     }
-}
-
-fn condvar_names(condvar: u8, at: CondvarAt) -> bool
-    ensures { result ≡ exists (At.Condvar condvar at) }
-{
-    let there = (condvar as usize) < CONDVARS;
-    if there {
-        return condvar_exists(at);
-    }
-    false
 }
 
 // Whether every object that a position names exists.
@@ -782,10 +563,10 @@ pub fn exists(at: At) -> bool
 {
     match at {
         At::Idle => true,
-        At::Mutex { mutex, at: _ } => (mutex as usize) < MUTEXES,
-        At::RwLock { lock, at: _ } => (lock as usize) < RWLOCKS,
-        At::Condvar { condvar, at: p } => condvar_names(condvar, p),
-        At::Once { once, at: _ } => (once as usize) < ONCES,
-        At::Parker { at: p } => parker_exists(p),
+        At::Mutex { mutex, .. } => usize::from(mutex) < MUTEXES,
+        At::RwLock { lock, .. } => usize::from(lock) < RWLOCKS,
+        At::Condvar { condvar, at } => usize::from(condvar) < CONDVARS && condvar_exists(at),
+        At::Once { once, .. } => usize::from(once) < ONCES,
+        At::Parker { at } => parker_exists(at),
     }
 }

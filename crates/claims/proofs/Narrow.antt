@@ -10,13 +10,14 @@ use lib.ListN.{get_or-replicate}
 use Rattle.words.proofs.Cond.{either}
 use Rattle.words.specs.Atomic.{exchanges}
 use Rattle.words.specs.RwLock.{is_unlocked, has_readers_waiting, is_read_lockable, has_reached_max_readers}
+use Rattle.words.specs.declared.Step.{Step}
+use Rattle.words.specs.Steps as St
 use Rattle.rwlock.specs.declared.ReadAt.{ReadAt}
 use Rattle.rwlock.specs.declared.ReadAt.TheVariants as R
 use Rattle.rwlock.specs.declared.TryAt.{TryAt}
 use Rattle.rwlock.specs.declared.TryAt.TheVariants as T
 use Rattle.rwlock.specs.declared.RwLockAt.{RwLockAt}
 use Rattle.rwlock.specs.declared.RwLockAt.TheVariants as X
-use Rattle.rwlock.specs.declared.RwLockStep.{RwLockStep}
 use Rattle.once.specs.declared.Ending.{Ending}
 use Rattle.rwlock.specs.RwLock as Rw
 use Rattle.rwlock.specs.Positions as RwP
@@ -24,7 +25,7 @@ use Rattle.queue.specs.Row.{THREADS}
 use Rattle.calls.specs.declared.At.{At}
 use Rattle.calls.specs.declared.At.TheVariants as A
 use Rattle.calls.specs.declared.Thread.{Thread}
-use Rattle.calls.specs.Plans.{idle, moved, slept, done, panicked, rwlock_plan, decide_of}
+use Rattle.calls.specs.Plans.{idle, moved, slept, done, panicked, rwlock_plan, decide_of, plan_of}
 use Rattle.calls.specs.Positions.{entry_of, after_wait, operand_of}
 use Rattle.world.specs.declared.World.{World}
 use Rattle.world.specs.World.{fresh_world, thread_at}
@@ -47,18 +48,18 @@ use Rattle.claims.proofs.Asserts.{read_seen, try_seen, lock_seen, seen_at, Narro
 
 -- the step of read, try_read and try_write: the exchange that it leads to is of the word
 module _ (l word : ℕ) (wide : word < 2 ^ 32) where
-  abbrev Step : RwLockAt → RwLockStep → Type 0
+  abbrev Step : RwLockAt → Step RwLockAt → Type 0
   Step p s = Narrow (rwlock_plan l p s).next.at
 
   read-top : (p : ReadAt) (slept : Bool) → Step (X.Read p) (Rw.read_top slept word)
-  unfolding seen_at lock_seen read_seen rwlock_plan Rw.read_top Rw.moves_with Rw.panics moved panicked
+  unfolding seen_at lock_seen read_seen plan_of Rw.read_top moved panicked
   read-top p slept =
       either (Step (X.Read p)) (Rw.may_read slept word) _ _ wide
       (either (Step (X.Read p)) (has_reached_max_readers word) _ _ (omega arith)
       (either (Step (X.Read p)) (has_readers_waiting word) _ _ (omega arith) (omega arith)))
 
   read-narrow : (p : ReadAt) (f : Bool) → Step (X.Read p) (Rw.read_of p f word)
-  unfolding seen_at lock_seen read_seen rwlock_plan Rw.read_of Rw.read_after_wait Rw.moves_with Rw.sleeps Rw.ends moved slept done
+  unfolding seen_at lock_seen read_seen plan_of Rw.read_of Rw.read_after_wait moved slept done
   read-narrow R.Load f = either (Step (X.Read R.Load)) (is_read_lockable word) _ _ wide (omega arith)
   read-narrow (R.Exchange seen) f = either (Step (X.Read (R.Exchange seen))) (exchanges word seen f) _ _ (omega arith) (omega arith)
   read-narrow (R.Spin slept left) f =
@@ -70,21 +71,21 @@ module _ (l word : ℕ) (wide : word < 2 ^ 32) where
   read-narrow (R.Wait seen) f = either (Step (X.Read (R.Wait seen))) (eqb word seen) _ _ (omega arith) (omega arith)
 
   try-read-top : (p : TryAt) → Step (X.TryRead p) (Rw.try_read_top word)
-  unfolding seen_at lock_seen try_seen rwlock_plan Rw.try_read_top Rw.moves_with Rw.ends moved done
+  unfolding seen_at lock_seen try_seen plan_of Rw.try_read_top moved done
   try-read-top p = either (Step (X.TryRead p)) (is_read_lockable word) _ _ wide (omega arith)
 
   try-read-narrow : (p : TryAt) (f : Bool) → Step (X.TryRead p) (Rw.try_read_of p f word)
-  unfolding seen_at rwlock_plan Rw.try_read_of Rw.ends done
+  unfolding seen_at plan_of Rw.try_read_of done
   try-read-narrow T.Load f = try-read-top T.Load
   try-read-narrow (T.Exchange seen) f =
       either (Step (X.TryRead (T.Exchange seen))) (exchanges word seen f) _ _ (omega arith) (try-read-top (T.Exchange seen))
 
   try-write-top : (p : TryAt) → Step (X.TryWrite p) (Rw.try_write_top word)
-  unfolding seen_at lock_seen try_seen rwlock_plan Rw.try_write_top Rw.moves_with Rw.ends moved done
+  unfolding seen_at lock_seen try_seen plan_of Rw.try_write_top moved done
   try-write-top p = either (Step (X.TryWrite p)) (is_unlocked word) _ _ wide (omega arith)
 
   try-write-narrow : (p : TryAt) (f : Bool) → Step (X.TryWrite p) (Rw.try_write_of p f word)
-  unfolding seen_at rwlock_plan Rw.try_write_of Rw.ends done
+  unfolding seen_at plan_of Rw.try_write_of done
   try-write-narrow T.Load f = try-write-top T.Load
   try-write-narrow (T.Exchange seen) f =
       either (Step (X.TryWrite (T.Exchange seen))) (exchanges word seen f) _ _ (omega arith) (try-write-top (T.Exchange seen))

@@ -10,14 +10,13 @@ use Rattle.words.specs.declared.Hold.TheVariants as H
 use Rattle.words.specs.declared.Kind.{Kind}
 use Rattle.words.specs.declared.Kind.TheVariants as K
 use Rattle.words.specs.declared.Wake.TheVariants as W
+use Rattle.words.specs.declared.Step.{Step}
+use Rattle.words.specs.Steps.{map_step}
 use Rattle.mutex.specs.declared.LockAt.{LockAt}
 use Rattle.mutex.specs.declared.LockAt.TheVariants as L
 use Rattle.mutex.specs.declared.UnlockAt.{UnlockAt}
 use Rattle.mutex.specs.declared.MutexAt.{MutexAt}
 use Rattle.mutex.specs.declared.MutexAt.TheVariants as M
-use Rattle.mutex.specs.declared.LockStep.{LockStep}
-use Rattle.mutex.specs.declared.UnlockStep.{UnlockStep}
-use Rattle.mutex.specs.declared.MutexStep.{MutexStep}
 use Rattle.mutex.specs.Mutex as Mx
 use Rattle.rwlock.specs.declared.WriteAt.{WriteAt}
 use Rattle.rwlock.specs.declared.WriteAt.TheVariants as Wr
@@ -37,7 +36,7 @@ use Rattle.condvar.specs.Condvar as Cv
 use Rattle.calls.specs.declared.At.{At}
 use Rattle.calls.specs.declared.At.TheVariants as A
 use Rattle.calls.specs.declared.Plan.{Plan}
-use Rattle.calls.specs.Plans.{moved, slept, done, mutex_plan, condvar_plan, decide_of}
+use Rattle.calls.specs.Plans.{moved, slept, done, mutex_plan, condvar_plan, decide_of, plan_of}
 use Rattle.calls.specs.Positions.{operand_of, after_wait, waits_of}
 use Rattle.kept.proofs.Tests.{decided, no_way}
 use Rattle.kept.specs.Laws.{kind_of}
@@ -84,8 +83,8 @@ not-marked : (word : ℕ) {P : Type 0} → word ≡ 0 → word ≡ CONTENDED →
 not-marked word e q = absurd (omega arith)
 
 module _ (m word : ℕ) where
-  lock-leaves : (p : LockAt) (s : LockStep) → LockDid p word s → Leaves (A.Mutex m (M.Lock p)) word (mutex_plan m (M.Lock p) (Mx.lock_step s))
-  unfolding mutex_plan Mx.lock_step moved slept done helps mutex_helps operand_of Mx.operand_of
+  lock-leaves : (p : LockAt) (s : Step LockAt) → LockDid p word s → Leaves (A.Mutex m (M.Lock p)) word (mutex_plan m (M.Lock p) (map_step M.Lock s))
+  unfolding plan_of moved slept done helps mutex_helps operand_of Mx.operand_of
   lock-leaves p s (lock-moves {q} _ l) = by (two_ways (late p))
     where
       by :
@@ -102,24 +101,24 @@ module _ (m word : ℕ) where
       by (inr c) = apart refl c (not-marked word e)
 
   unlock-leaves :
-      (p : UnlockAt) (s : UnlockStep) → UnlockDid word p s → Leaves (A.Mutex m (M.Unlock p)) word (mutex_plan m (M.Unlock p) (Mx.unlock_step s))
-  unfolding mutex_plan Mx.unlock_step moved slept done helps mutex_helps Mx.unlock_may_wake operand_of Mx.operand_of
+      (p : UnlockAt) (s : Step UnlockAt) → UnlockDid word p s → Leaves (A.Mutex m (M.Unlock p)) word (mutex_plan m (M.Unlock p) (map_step M.Unlock s))
+  unfolding plan_of moved slept done helps mutex_helps Mx.unlock_may_wake operand_of Mx.operand_of
   unlock-leaves p s (unlock-wakes-next e) = answering refl refl (λ t. refl)
   unlock-leaves p s (unlock-ends n) = apart refl refl (λ e. absurd (n e))
   unlock-leaves p s unlock-wakes = wakes-one refl refl
 
   try-leaves : Leaves (A.Mutex m M.TryLock) word (mutex_plan m M.TryLock (Mx.try_lock_of word))
-  unfolding mutex_plan Mx.try_lock_of done helps mutex_helps
+  unfolding plan_of Mx.try_lock_of done helps mutex_helps
   try-leaves =
-      decided (λ (s : MutexStep). Leaves (A.Mutex m M.TryLock) word (mutex_plan m M.TryLock s)) (is_unlocked word) _ _
+      decided (λ (s : Step MutexAt). Leaves (A.Mutex m M.TryLock) word (mutex_plan m M.TryLock s)) (is_unlocked word) _ _
       (λ e. apart refl refl (not-marked word (eqb-true word 0 e)))
       (λ _. apart refl refl (λ e. e))
 
 module _ (c m word : ℕ) where
   relock-leaves :
-      (p : LockAt) (s : LockStep) → LockDid p word s →
+      (p : LockAt) (s : Step LockAt) → LockDid p word s →
       Leaves (A.Condvar c (C.Wait m (Wt.Relock p))) word (condvar_plan c (C.Wait m (Wt.Relock p)) m (Cv.relock_step m s))
-  unfolding condvar_plan Cv.relock_step moved slept done helps condvar_helps wait_helps operand_of Cv.operand_of Cv.wait_operand Cv.object_of Cv.wait_object
+  unfolding plan_of Cv.relock_step moved slept done helps condvar_helps wait_helps operand_of Cv.operand_of Cv.wait_operand Cv.object_of Cv.wait_object
   relock-leaves p s (lock-moves {q} _ l) = by (two_ways (late p))
     where
       by :
@@ -136,9 +135,9 @@ module _ (c m word : ℕ) where
       by (inr q) = apart refl q (not-marked word e)
 
   wait-unlock-leaves :
-      (sequence : ℕ) (p : UnlockAt) (s : UnlockStep) → UnlockDid word p s →
+      (sequence : ℕ) (p : UnlockAt) (s : Step UnlockAt) → UnlockDid word p s →
       Leaves (A.Condvar c (C.Wait m (Wt.Unlock sequence p))) word (condvar_plan c (C.Wait m (Wt.Unlock sequence p)) m (Cv.unlock_step m sequence s))
-  unfolding condvar_plan Cv.unlock_step moved slept done helps condvar_helps wait_helps Mx.unlock_may_wake operand_of Cv.operand_of Cv.wait_operand Cv.object_of Cv.wait_object
+  unfolding plan_of Cv.unlock_step moved slept done helps condvar_helps wait_helps Mx.unlock_may_wake operand_of Cv.operand_of Cv.wait_operand Cv.object_of Cv.wait_object
   wait-unlock-leaves sequence p s (unlock-wakes-next e) = answering refl refl (λ t. refl)
   wait-unlock-leaves sequence p s (unlock-ends n) = apart refl refl (λ e. absurd (n e))
   wait-unlock-leaves sequence p s unlock-wakes = wakes-one refl refl

@@ -11,21 +11,22 @@ use Rattle.words.specs.Atomic.{exchanges}
 use Rattle.words.specs.RwLock.{downgraded, has_readers_waiting, is_unlocked, has_writers_waiting}
 use Rattle.words.specs.declared.Hold.TheVariants as H
 use Rattle.words.specs.declared.Wake.TheVariants as W
+use Rattle.words.specs.declared.Next.{Next}
+use Rattle.words.specs.declared.Next.TheVariants as Nx
+use Rattle.words.specs.declared.Step.{Step}
+use Rattle.words.specs.Steps.{moves_with, sleeps, ends, map_next}
 use Rattle.rwlock.specs.declared.WriteAt.{WriteAt}
 use Rattle.rwlock.specs.declared.WriteAt.TheVariants as Wr
 use Rattle.rwlock.specs.declared.DowngradeAt.{DowngradeAt}
 use Rattle.rwlock.specs.declared.DowngradeAt.TheVariants as D
 use Rattle.rwlock.specs.declared.RwLockAt.{RwLockAt}
 use Rattle.rwlock.specs.declared.RwLockAt.TheVariants as Rw
-use Rattle.rwlock.specs.declared.RwLockNext.{RwLockNext}
-use Rattle.rwlock.specs.declared.RwLockNext.TheVariants as RN
-use Rattle.rwlock.specs.declared.RwLockStep.{RwLockStep}
 use Rattle.rwlock.specs.Positions as RwP
-use Rattle.rwlock.specs.RwLock.{moves_with, sleeps, ends, write_after_wait, write_top, stops_write, write_of, downgrade_of}
+use Rattle.rwlock.specs.RwLock.{write_after_wait, write_top, stops_write, write_of, downgrade_of}
 use Rattle.rwlock.specs.RwLock as RwS
 use Rattle.calls.specs.declared.At.{At}
 use Rattle.calls.specs.declared.At.TheVariants as A
-use Rattle.calls.specs.Plans.{moved, slept, done, panicked, rwlock_next, rwlock_plan, decide_of}
+use Rattle.calls.specs.Plans.{moved, slept, done, panicked, rwlock_plan, decide_of, plan_next, plan_of, entered}
 use Rattle.calls.specs.Positions.{after_wait, waits_of}
 use Rattle.kept.proofs.Tests.{decided, no_way}
 use Rattle.kept.specs.Laws.{Goes, ended, staying, locking, unlocking, reading, try-reading, read-unlocking, writing, try-writing, write-unlocking, waking, downgrading, waiting, notifying, calling, awaiting, parking, unparking}
@@ -155,38 +156,39 @@ since-le n s Rw.WriteUnlock h = h
 since-le n s (Rw.Wake b p) h = h
 since-le n s (Rw.Downgrade p) h = h
 
-abbrev pub NextCarries : ℕ → ℕ → RwLockAt → RwLockNext → Type 0
-NextCarries start s p (RN.Moved q) = LockCarries start s q
-NextCarries start s p RN.Asleep = LockCarries start s p
-NextCarries start s p (RN.Ended value) = Unit {0}
-NextCarries start s p (RN.Panic number) = Unit {0}
+abbrev pub NextCarries : ℕ → ℕ → RwLockAt → Next RwLockAt → Type 0
+NextCarries start s p (Nx.Moved q) = LockCarries start s q
+NextCarries start s p Nx.Asleep = LockCarries start s p
+NextCarries start s p (Nx.Ended value) = Unit {0}
+NextCarries start s p (Nx.Panics number) = Unit {0}
+NextCarries start s p (Nx.Closure q) = LockCarries start s q
 
 module _ (start s n : ℕ) where
   top-carries : (p : RwLockAt) (s' : ℕ) (b : Bool) (w : ℕ) → NextCarries start s' p (write_top b w).next
-  unfolding write_top moves_with
+  unfolding write_top
   top-carries p s' b w =
       decided P (is_unlocked w) _ _ (λ _. tt) (λ _. decided P (has_writers_waiting w) _ _ (λ _. tt) (λ _. tt))
     where
-      P : RwLockStep → Type 0
+      P : Step RwLockAt → Type 0
       P x = NextCarries start s' p x.next
 
-  abbrev Nx : WriteAt → RwLockStep → Type 0
-  Nx p x = NextCarries start (write_since n s p) (Rw.Write p) x.next
+  abbrev On : WriteAt → Step RwLockAt → Type 0
+  On p x = NextCarries start (write_since n s p) (Rw.Write p) x.next
 
   write-carries :
-      (p : WriteAt) (f : Bool) (word : ℕ) → WriteCarries start s p → (p ≡ Wr.LoadSequence → word ≡ (start + n) % 2 ^ 32) → Nx p (write_of p f word)
-  unfolding write_of moves_with sleeps ends write_after_wait
-  write-carries Wr.Exchange f word h e = decided (Nx Wr.Exchange) (exchanges word 0 f) _ _ (λ _. tt) (λ _. tt)
+      (p : WriteAt) (f : Bool) (word : ℕ) → WriteCarries start s p → (p ≡ Wr.LoadSequence → word ≡ (start + n) % 2 ^ 32) → On p (write_of p f word)
+  unfolding write_of write_after_wait
+  write-carries Wr.Exchange f word h e = decided (On Wr.Exchange) (exchanges word 0 f) _ _ (λ _. tt) (λ _. tt)
   write-carries (Wr.Spin others left) f word h e =
-      decided (Nx (Wr.Spin others left)) (stops_write word || eqb left 0) _ _ (λ _. top-carries (Rw.Write (Wr.Spin others left)) s others word) (λ _. tt)
+      decided (On (Wr.Spin others left)) (stops_write word || eqb left 0) _ _ (λ _. top-carries (Rw.Write (Wr.Spin others left)) s others word) (λ _. tt)
   write-carries (Wr.ExchangeContended others seen) f word h e =
-      decided (Nx (Wr.ExchangeContended others seen)) (exchanges word seen f) _ _ (λ _. tt) (λ _. top-carries (Rw.Write (Wr.ExchangeContended others seen)) s others word)
+      decided (On (Wr.ExchangeContended others seen)) (exchanges word seen f) _ _ (λ _. tt) (λ _. top-carries (Rw.Write (Wr.ExchangeContended others seen)) s others word)
   write-carries (Wr.SetWaiting others seen) f word h e =
-      decided (Nx (Wr.SetWaiting others seen)) (eqb word seen) _ _ (λ _. tt) (λ _. top-carries (Rw.Write (Wr.SetWaiting others seen)) s others word)
+      decided (On (Wr.SetWaiting others seen)) (eqb word seen) _ _ (λ _. tt) (λ _. top-carries (Rw.Write (Wr.SetWaiting others seen)) s others word)
   write-carries Wr.LoadSequence f word h e = e refl
   write-carries (Wr.LoadState sequence) f word h e =
-      decided (Nx (Wr.LoadState sequence)) (is_unlocked word || not (has_writers_waiting word)) _ _ (λ _. top-carries (Rw.Write (Wr.LoadState sequence)) s true word) (λ _. h)
-  write-carries (Wr.Wait sequence) f word h e = decided (Nx (Wr.Wait sequence)) (eqb word sequence) _ _ (λ _. h) (λ _. tt)
+      decided (On (Wr.LoadState sequence)) (is_unlocked word || not (has_writers_waiting word)) _ _ (λ _. top-carries (Rw.Write (Wr.LoadState sequence)) s true word) (λ _. h)
+  write-carries (Wr.Wait sequence) f word h e = decided (On (Wr.Wait sequence)) (eqb word sequence) _ _ (λ _. h) (λ _. tt)
 
 -- ---- the middle of a downgrade
 
@@ -265,15 +267,16 @@ goes-reading awaiting e = refl
 goes-reading parking e = refl
 goes-reading unparking e = refl
 
-next-carries : (l start s : ℕ) (p : RwLockAt) (st : RwLockStep) → NextCarries start s p st.next → Carries l start s (rwlock_plan l p st).next.at
-unfolding rwlock_plan moved slept done panicked here
+next-carries : (l start s : ℕ) (p : RwLockAt) (st : Step RwLockAt) → NextCarries start s p st.next → Carries l start s (rwlock_plan l p st).next.at
+unfolding plan_of moved slept done panicked entered here
 next-carries l start s p st h = go st.next h
   where
-    go : (x : RwLockNext) → NextCarries start s p x → Carries l start s (rwlock_next l p st.word st.hold st.wake x).next.at
-    go (RN.Moved q) k = carries-near l start s q k
-    go RN.Asleep k = carries-near l start s p k
-    go (RN.Ended value) k = carries-away l start s A.Idle refl
-    go (RN.Panic number) k = carries-away l start s A.Idle refl
+    go : (x : Next RwLockAt) → NextCarries start s p x → Carries l start s (plan_next (A.RwLock l p) l st.word st.hold st.wake (map_next (A.RwLock l) x)).next.at
+    go (Nx.Moved q) k = carries-near l start s q k
+    go Nx.Asleep k = carries-near l start s p k
+    go (Nx.Ended value) k = carries-away l start s A.Idle refl
+    go (Nx.Panics number) k = carries-away l start s A.Idle refl
+    go (Nx.Closure q) k = carries-near l start s q k
 
 pub step-carries :
     (l start s n : ℕ) (p : RwLockAt) (f : Bool) (word : ℕ) (a : Bool) → LockCarries start s p →
@@ -378,7 +381,7 @@ pub down_step :
     (l : ℕ) (p : RwLockAt) (f : Bool) (word : ℕ) (a : Bool) → Downs l (decide_of (A.RwLock l p) f word a).next.at →
     ((p ≡ Rw.Downgrade D.Add) × ((decide_of (A.RwLock l p) f word a).hold ≡ H.Downgrade))
     ⊎ ((p ≡ Rw.Downgrade D.Subtract) × ((decide_of (A.RwLock l p) f word a).hold ≡ H.Same))
-unfolding decide_of RwS.decide_of downgrade_of rwlock_plan moves_with ends moved done downs is_down here
+unfolding decide_of RwS.decide_of downgrade_of plan_of moved done downs is_down here
 down_step l (Rw.Read p) f word a d = no_way (sym (goes-level (goes (A.RwLock l (Rw.Read p)) f word a) refl) ∙ downs-down l _ d)
 down_step l (Rw.TryRead p) f word a d = no_way (sym (goes-level (goes (A.RwLock l (Rw.TryRead p)) f word a) refl) ∙ downs-down l _ d)
 down_step l Rw.ReadUnlock f word a d = no_way (sym (goes-level (goes (A.RwLock l Rw.ReadUnlock) f word a) refl) ∙ downs-down l _ d)
@@ -399,39 +402,42 @@ down_step l (Rw.Downgrade D.WakeReaders) f word a d = no_way (downs-here l A.Idl
 
 -- the object of a step's hold is the lock
 pub plan-object : (l : ℕ) (p : RwLockAt) (f : Bool) (word : ℕ) (a : Bool) → (decide_of (A.RwLock l p) f word a).object ≡ l
-unfolding decide_of rwlock_plan moved slept done panicked
+unfolding decide_of plan_of moved slept done panicked entered
 plan-object l p f word a = go (RwS.decide_of p f word a).next
   where
     go :
-        (x : RwLockNext) →
-        (rwlock_next l p (RwS.decide_of p f word a).word (RwS.decide_of p f word a).hold (RwS.decide_of p f word a).wake x).object ≡ l
-    go (RN.Moved q) = refl
-    go RN.Asleep = refl
-    go (RN.Ended value) = refl
-    go (RN.Panic number) = refl
+        (x : Next RwLockAt) →
+        (plan_next (A.RwLock l p) l (RwS.decide_of p f word a).word (RwS.decide_of p f word a).hold (RwS.decide_of p f word a).wake (map_next (A.RwLock l) x)).object ≡ l
+    go (Nx.Moved q) = refl
+    go Nx.Asleep = refl
+    go (Nx.Ended value) = refl
+    go (Nx.Panics number) = refl
+    go (Nx.Closure q) = refl
 
 pub plan-word : (l : ℕ) (p : RwLockAt) (f : Bool) (word : ℕ) (a : Bool) → (decide_of (A.RwLock l p) f word a).word ≡ (RwS.decide_of p f word a).word
-unfolding decide_of rwlock_plan moved slept done panicked
+unfolding decide_of plan_of moved slept done panicked entered
 plan-word l p f word a = go (RwS.decide_of p f word a).next
   where
     go :
-        (x : RwLockNext) →
-        (rwlock_next l p (RwS.decide_of p f word a).word (RwS.decide_of p f word a).hold
-        (RwS.decide_of p f word a).wake x).word ≡ (RwS.decide_of p f word a).word
-    go (RN.Moved q) = refl
-    go RN.Asleep = refl
-    go (RN.Ended value) = refl
-    go (RN.Panic number) = refl
+        (x : Next RwLockAt) →
+        (plan_next (A.RwLock l p) l (RwS.decide_of p f word a).word (RwS.decide_of p f word a).hold
+        (RwS.decide_of p f word a).wake (map_next (A.RwLock l) x)).word ≡ (RwS.decide_of p f word a).word
+    go (Nx.Moved q) = refl
+    go Nx.Asleep = refl
+    go (Nx.Ended value) = refl
+    go (Nx.Panics number) = refl
+    go (Nx.Closure q) = refl
 
 pub plan-wake : (l : ℕ) (p : RwLockAt) (f : Bool) (word : ℕ) (a : Bool) → (decide_of (A.RwLock l p) f word a).wake ≡ (RwS.decide_of p f word a).wake
-unfolding decide_of rwlock_plan moved slept done panicked
+unfolding decide_of plan_of moved slept done panicked entered
 plan-wake l p f word a = go (RwS.decide_of p f word a).next
   where
     go :
-        (x : RwLockNext) →
-        (rwlock_next l p (RwS.decide_of p f word a).word (RwS.decide_of p f word a).hold
-        (RwS.decide_of p f word a).wake x).wake ≡ (RwS.decide_of p f word a).wake
-    go (RN.Moved q) = refl
-    go RN.Asleep = refl
-    go (RN.Ended value) = refl
-    go (RN.Panic number) = refl
+        (x : Next RwLockAt) →
+        (plan_next (A.RwLock l p) l (RwS.decide_of p f word a).word (RwS.decide_of p f word a).hold
+        (RwS.decide_of p f word a).wake (map_next (A.RwLock l) x)).wake ≡ (RwS.decide_of p f word a).wake
+    go (Nx.Moved q) = refl
+    go Nx.Asleep = refl
+    go (Nx.Ended value) = refl
+    go (Nx.Panics number) = refl
+    go (Nx.Closure q) = refl

@@ -13,6 +13,10 @@ use Rattle.words.specs.RwLock.{MASK, MAX_READERS, WRITE_LOCKED, READERS_WAITING,
 use Rattle.words.proofs.Readings.{Reads as Has, made, count-le, readers-le, writers-le, word-is, re_read, read-locked, write-locked, with-readers, with-writers, with-write-locked}
 use Rattle.words.specs.declared.Hold.TheVariants as H
 use Rattle.words.specs.declared.Wake.TheVariants as W
+use Rattle.words.specs.declared.Next.{Next}
+use Rattle.words.specs.declared.Next.TheVariants as Nx
+use Rattle.words.specs.declared.Step.{Step}
+use Rattle.words.specs.Steps.{moves_with, sleeps, ends, panics}
 use Rattle.rwlock.specs.declared.ReadAt.{ReadAt}
 use Rattle.rwlock.specs.declared.ReadAt.TheVariants as R
 use Rattle.rwlock.specs.declared.TryAt.{TryAt}
@@ -25,11 +29,8 @@ use Rattle.rwlock.specs.declared.DowngradeAt.{DowngradeAt}
 use Rattle.rwlock.specs.declared.DowngradeAt.TheVariants as D
 use Rattle.rwlock.specs.declared.RwLockAt.{RwLockAt}
 use Rattle.rwlock.specs.declared.RwLockAt.TheVariants as A
-use Rattle.rwlock.specs.declared.RwLockNext.{RwLockNext}
-use Rattle.rwlock.specs.declared.RwLockNext.TheVariants as RN
-use Rattle.rwlock.specs.declared.RwLockStep.{RwLockStep}
 use Rattle.words.specs.declared.Kind.TheVariants as K
-use Rattle.rwlock.specs.RwLock.{moves_with, sleeps, ends, panics, read_after_wait, write_after_wait, try_read_top, try_read_of, may_read, read_top, stops_read, read_of, wake_rest, read_unlock_of, try_write_top, try_write_of, write_unlock_of, downgrade_of, write_locked_with, write_top, stops_write, write_of, wake_of, decide_of}
+use Rattle.rwlock.specs.RwLock.{read_after_wait, write_after_wait, try_read_top, try_read_of, may_read, read_top, stops_read, read_of, wake_rest, read_unlock_of, try_write_top, try_write_of, write_unlock_of, downgrade_of, write_locked_with, write_top, stops_write, write_of, wake_of, decide_of}
 use Rattle.rwlock.specs.Positions.{operand_of, write_operand, wake_operand, must_wait, read_waits, write_waits, read_passed, try_read_passed, write_passed, try_write_passed, passed_of}
 use Rattle.kept.proofs.Tests.{decided, no_way, and_left, and_right, or_cases, exchanged}
 use Rattle.claims_rwlock.proofs.Codes.{outside, in_write, in_write_beside_others, at_write_wait, at_exchange_writers, at_exchange_both, at_notify, at_notify_both, at_wake_writer, at_wake_writer_both, at_exchange_readers, at_wake_readers, at_read_unlock, at_write_unlock, at_downgrade, at_subtract, at_read_wait}
@@ -81,55 +82,57 @@ code_of A.WriteUnlock = at_write_unlock
 code_of (A.Wake writer p) = wake_code p
 code_of (A.Downgrade p) = down_code p
 
-abbrev pub next_code : RwLockNext → ℕ
-next_code (RN.Moved q) = code_of q
-next_code RN.Asleep = outside
-next_code (RN.Ended value) = outside
-next_code (RN.Panic number) = outside
+abbrev pub next_code : Next RwLockAt → ℕ
+next_code (Nx.Moved q) = code_of q
+next_code Nx.Asleep = outside
+next_code (Nx.Ended value) = outside
+next_code (Nx.Panics number) = outside
+next_code (Nx.Closure q) = code_of q
 
-abbrev pub stays_awake : RwLockNext → Bool
-stays_awake (RN.Moved q) = true
-stays_awake RN.Asleep = false
-stays_awake (RN.Ended value) = true
-stays_awake (RN.Panic number) = true
+abbrev pub stays_awake : Next RwLockAt → Bool
+stays_awake (Nx.Moved q) = true
+stays_awake Nx.Asleep = false
+stays_awake (Nx.Ended value) = true
+stays_awake (Nx.Panics number) = true
+stays_awake (Nx.Closure q) = true
 
 abbrev pub BOTH : ℕ
 BOTH = READERS_WAITING + WRITERS_WAITING
 
 -- w and n are the state and writer_notify before the step, `found` whether somebody sleeps there; then those after it, and where it leads
-pub data Did (w n : ℕ) (found : Bool) (p : RwLockAt) : ℕ → ℕ → RwLockNext → Type 0 where
+pub data Did (w n : ℕ) (found : Bool) (p : RwLockAt) : ℕ → ℕ → Next RwLockAt → Type 0 where
   d-quiet :
-      (x : RwLockNext) → stays_awake x ≡ true → Quiet (count w) (readers_waiting w) (writers_waiting w) (code_of p) (next_code x) → Did w n found p w n x
+      (x : Next RwLockAt) → stays_awake x ≡ true → Quiet (count w) (readers_waiting w) (writers_waiting w) (code_of p) (next_code x) → Did w n found p w n x
   d-takes-read :
       (w' value : ℕ) → code_of p ≡ outside → readers_waiting w ≡ 0 → Has w' (count w + 1) (readers_waiting w) (writers_waiting w) →
-      Did w n found p w' n (RN.Ended value)
+      Did w n found p w' n (Nx.Ended value)
   d-sets-readers :
       (w' : ℕ) → code_of p ≡ outside → readers_waiting w ≡ 0 → (writers_waiting w ≡ 1) ⊎ (count w ≡ MASK) → Has w' (count w) 1 (writers_waiting w) →
-      Did w n found p w' n (RN.Moved (A.Read (R.Wait w')))
-  d-sleeps-reader : code_of p ≡ at_read_wait → readers_waiting w ≡ 1 → Did w n found p w n RN.Asleep
+      Did w n found p w' n (Nx.Moved (A.Read (R.Wait w')))
+  d-sleeps-reader : code_of p ≡ at_read_wait → readers_waiting w ≡ 1 → Did w n found p w n Nx.Asleep
   d-takes-write :
       (w' v' value : ℕ) → count w ≡ 0 → Has w' MASK (readers_waiting w) v' → (writers_waiting w ≡ 1 → v' ≡ 1) →
-      (code_of p ≡ outside) ⊎ ((code_of p ≡ in_write) ⊎ ((code_of p ≡ in_write_beside_others) × (v' ≡ 1))) → Did w n found p w' n (RN.Ended value)
+      (code_of p ≡ outside) ⊎ ((code_of p ≡ in_write) ⊎ ((code_of p ≡ in_write_beside_others) × (v' ≡ 1))) → Did w n found p w' n (Nx.Ended value)
   d-sets-writers :
       (w' : ℕ) (b : Bool) → code_of p ≡ writing_code b → (count w ≡ 0 → ⊥) → Has w' (count w) (readers_waiting w) 1 →
-      Did w n found p w' n (RN.Moved (A.Write Wr.LoadSequence))
-  d-sleeps-writer : p ≡ A.Write (Wr.Wait n) → Did w n found p w n RN.Asleep
+      Did w n found p w' n (Nx.Moved (A.Write Wr.LoadSequence))
+  d-sleeps-writer : p ≡ A.Write (Wr.Wait n) → Did w n found p w n Nx.Asleep
   d-frees-read : p ≡ A.ReadUnlock → Did w n found p (read_unlock_of w).word n (read_unlock_of w).next
   d-frees-write : p ≡ A.WriteUnlock → Did w n found p (write_unlock_of w).word n (write_unlock_of w).next
   d-downgrades :
-      p ≡ A.Downgrade D.Add → (x : RwLockNext) → stays_awake x ≡ true →
+      p ≡ A.Downgrade D.Add → (x : Next RwLockAt) → stays_awake x ≡ true →
       ((readers_waiting w ≡ 1) × (next_code x ≡ at_subtract)) ⊎ ((readers_waiting w ≡ 0) × (next_code x ≡ outside)) → Did w n found p (downgraded w) n x
-  d-subtracts : p ≡ A.Downgrade D.Subtract → Did w n found p (without_readers_waiting w) n (RN.Moved (A.Downgrade D.WakeReaders))
-  d-exchanges-writers : (b : Bool) → code_of p ≡ at_exchange_writers → w ≡ WRITERS_WAITING → Did w n found p 0 n (RN.Moved (A.Wake b (Wk.Notify false)))
-  d-exchanges-both : (b : Bool) → code_of p ≡ at_exchange_both → w ≡ BOTH → Did w n found p READERS_WAITING n (RN.Moved (A.Wake b (Wk.Notify true)))
-  d-exchanges-readers : (b : Bool) → code_of p ≡ at_exchange_readers → w ≡ READERS_WAITING → Did w n found p 0 n (RN.Moved (A.Wake b Wk.WakeReaders))
-  d-notifies : (b both : Bool) → p ≡ A.Wake b (Wk.Notify both) → Did w n found p w (incremented n) (RN.Moved (A.Wake b (Wk.WakeWriter both)))
+  d-subtracts : p ≡ A.Downgrade D.Subtract → Did w n found p (without_readers_waiting w) n (Nx.Moved (A.Downgrade D.WakeReaders))
+  d-exchanges-writers : (b : Bool) → code_of p ≡ at_exchange_writers → w ≡ WRITERS_WAITING → Did w n found p 0 n (Nx.Moved (A.Wake b (Wk.Notify false)))
+  d-exchanges-both : (b : Bool) → code_of p ≡ at_exchange_both → w ≡ BOTH → Did w n found p READERS_WAITING n (Nx.Moved (A.Wake b (Wk.Notify true)))
+  d-exchanges-readers : (b : Bool) → code_of p ≡ at_exchange_readers → w ≡ READERS_WAITING → Did w n found p 0 n (Nx.Moved (A.Wake b Wk.WakeReaders))
+  d-notifies : (b both : Bool) → p ≡ A.Wake b (Wk.Notify both) → Did w n found p w (incremented n) (Nx.Moved (A.Wake b (Wk.WakeWriter both)))
   d-wakes-writer :
-      (b both : Bool) → p ≡ A.Wake b (Wk.WakeWriter both) → (x : RwLockNext) → stays_awake x ≡ true →
+      (b both : Bool) → p ≡ A.Wake b (Wk.WakeWriter both) → (x : Next RwLockAt) → stays_awake x ≡ true →
       next_code x ≡ cond (both && not found) at_exchange_readers outside → Did w n found p w n x
   d-wakes-readers :
       (value : ℕ) → code_of p ≡ at_wake_readers → ((b : Bool) × (p ≡ A.Wake b Wk.WakeReaders)) ⊎ (p ≡ A.Downgrade D.WakeReaders) →
-      Did w n found p w n (RN.Ended value)
+      Did w n found p w n (Nx.Ended value)
 
 -- ---- the tests as facts
 
@@ -282,36 +285,36 @@ kinds-differ e = let z : ◌≡◌ {A = ℕ} 0 1 = cc in absurd (omega arith)
 
 module _ (w n : ℕ) (found : Bool) (lt : w < 2 ^ 32) where
   -- a step over the state, and one over writer_notify
-  abbrev OverState : RwLockAt → RwLockStep → Type 0
+  abbrev OverState : RwLockAt → Step RwLockAt → Type 0
   OverState p s = Did w n found p s.word n s.next
 
-  abbrev OverNotify : RwLockAt → RwLockStep → Type 0
+  abbrev OverNotify : RwLockAt → Step RwLockAt → Type 0
   OverNotify p s = Did w n found p w s.word s.next
 
   read-top : (p : RwLockAt) (slept : Bool) → code_of p ≡ outside → OverState p (read_top slept w)
-  unfolding read_top moves_with panics
+  unfolding read_top
   read-top p slept k =
-      decided (OverState p) (may_read slept w) _ _ (λ _. d-quiet (RN.Moved (A.Read (R.ExchangeContended slept w))) refl (rw k plain))
+      decided (OverState p) (may_read slept w) _ _ (λ _. d-quiet (Nx.Moved (A.Read (R.ExchangeContended slept w))) refl (rw k plain))
       (λ _. decided (OverState p) (has_reached_max_readers w) _ _ (λ _. d-quiet _ refl (rw k plain))
-      (λ _. decided (OverState p) (has_readers_waiting w) _ _ (λ _. d-quiet (RN.Moved (A.Read (R.Wait w))) refl (rw k to-read-wait))
-      (λ _. d-quiet (RN.Moved (A.Read (R.SetWaiting slept w))) refl (rw k plain))))
+      (λ _. decided (OverState p) (has_readers_waiting w) _ _ (λ _. d-quiet (Nx.Moved (A.Read (R.Wait w))) refl (rw k to-read-wait))
+      (λ _. d-quiet (Nx.Moved (A.Read (R.SetWaiting slept w))) refl (rw k plain))))
 
-  exchange-reads : (p : RwLockAt) (seen : ℕ) → code_of p ≡ outside → Free seen → w ≡ seen → Did w n found p (read_locked seen) n (RN.Ended 1)
+  exchange-reads : (p : RwLockAt) (seen : ℕ) → code_of p ≡ outside → Free seen → w ≡ seen → Did w n found p (read_locked seen) n (Nx.Ended 1)
   unfolding Free
   exchange-reads p seen k ok e = d-takes-read (read_locked seen) 1 k (ap readers_waiting e ∙ ok.0) (rw (← e) (take-read w lt (rw e ok.1)))
 
   read-did : (p : ReadAt) (f : Bool) → read_passed p ≡ true → OverState (A.Read p) (read_of p f w)
-  unfolding read_of moves_with sleeps ends read_after_wait read_passed
+  unfolding read_of read_after_wait read_passed
   read-did R.Load f ok =
-      decided (OverState (A.Read R.Load)) (is_read_lockable w) _ _ (λ _. d-quiet (RN.Moved (A.Read (R.Exchange w))) refl plain)
-      (λ _. d-quiet (RN.Moved (A.Read (R.Spin false SPINS))) refl plain)
+      decided (OverState (A.Read R.Load)) (is_read_lockable w) _ _ (λ _. d-quiet (Nx.Moved (A.Read (R.Exchange w))) refl plain)
+      (λ _. d-quiet (Nx.Moved (A.Read (R.Spin false SPINS))) refl plain)
   read-did (R.Exchange seen) f ok =
       decided (OverState (A.Read (R.Exchange seen))) (exchanges w seen f) _ _
       (λ e. exchange-reads (A.Read (R.Exchange seen)) seen refl (lock-is seen ok) (exchanged w seen f e))
-      (λ _. d-quiet (RN.Moved (A.Read (R.Spin false SPINS))) refl plain)
+      (λ _. d-quiet (Nx.Moved (A.Read (R.Spin false SPINS))) refl plain)
   read-did (R.Spin slept left) f ok =
       decided (OverState (A.Read (R.Spin slept left))) (stops_read w || eqb left 0) _ _ (λ _. read-top (A.Read (R.Spin slept left)) slept refl)
-      (λ _. d-quiet (RN.Moved (A.Read (R.Spin slept (left - 1)))) refl plain)
+      (λ _. d-quiet (Nx.Moved (A.Read (R.Spin slept (left - 1)))) refl plain)
   read-did (R.ExchangeContended slept seen) f ok =
       decided (OverState (A.Read (R.ExchangeContended slept seen))) (exchanges w seen f) _ _
       (λ e. exchange-reads (A.Read (R.ExchangeContended slept seen)) seen refl (may-is slept seen ok) (exchanged w seen f e))
@@ -324,16 +327,16 @@ module _ (w n : ℕ) (found : Bool) (lt : w < 2 ^ 32) where
   read-did (R.Wait seen) f ok =
       decided (OverState (A.Read (R.Wait seen))) (eqb w seen) _ _
       (λ q. d-sleeps-reader refl (ap readers_waiting (eqb-true w seen q) ∙ waits-is seen ok))
-      (λ _. d-quiet (RN.Moved (A.Read (R.Spin true SPINS))) refl from-read-wait)
+      (λ _. d-quiet (Nx.Moved (A.Read (R.Spin true SPINS))) refl from-read-wait)
 
   try-read-top : (p : TryAt) → OverState (A.TryRead p) (try_read_top w)
-  unfolding try_read_top moves_with ends
+  unfolding try_read_top
   try-read-top p =
-      decided (OverState (A.TryRead p)) (is_read_lockable w) _ _ (λ _. d-quiet (RN.Moved (A.TryRead (T.Exchange w))) refl plain)
-      (λ _. d-quiet (RN.Ended 0) refl plain)
+      decided (OverState (A.TryRead p)) (is_read_lockable w) _ _ (λ _. d-quiet (Nx.Moved (A.TryRead (T.Exchange w))) refl plain)
+      (λ _. d-quiet (Nx.Ended 0) refl plain)
 
   try-read-did : (p : TryAt) (f : Bool) → try_read_passed p ≡ true → OverState (A.TryRead p) (try_read_of p f w)
-  unfolding try_read_of ends try_read_passed
+  unfolding try_read_of try_read_passed
   try-read-did T.Load f ok = try-read-top T.Load
   try-read-did (T.Exchange seen) f ok =
       decided (OverState (A.TryRead (T.Exchange seen))) (exchanges w seen f) _ _
@@ -341,13 +344,13 @@ module _ (w n : ℕ) (found : Bool) (lt : w < 2 ^ 32) where
       (λ _. try-read-top (T.Exchange seen))
 
   try-write-top : (p : TryAt) → OverState (A.TryWrite p) (try_write_top w)
-  unfolding try_write_top moves_with ends
+  unfolding try_write_top
   try-write-top p =
-      decided (OverState (A.TryWrite p)) (is_unlocked w) _ _ (λ _. d-quiet (RN.Moved (A.TryWrite (T.Exchange w))) refl plain)
-      (λ _. d-quiet (RN.Ended 0) refl plain)
+      decided (OverState (A.TryWrite p)) (is_unlocked w) _ _ (λ _. d-quiet (Nx.Moved (A.TryWrite (T.Exchange w))) refl plain)
+      (λ _. d-quiet (Nx.Ended 0) refl plain)
 
   try-write-did : (p : TryAt) (f : Bool) → try_write_passed p ≡ true → OverState (A.TryWrite p) (try_write_of p f w)
-  unfolding try_write_of ends try_write_passed
+  unfolding try_write_of try_write_passed
   try-write-did T.Load f ok = try-write-top T.Load
   try-write-did (T.Exchange seen) f ok =
       decided (OverState (A.TryWrite (T.Exchange seen))) (exchanges w seen f) _ _
@@ -365,11 +368,11 @@ module _ (w n : ℕ) (found : Bool) (lt : w < 2 ^ 32) where
   to-sequence false = meets-others
 
   write_top_lem : (p : RwLockAt) (b : Bool) → code_of p ≡ writing_code b → OverState p (write_top b w)
-  unfolding write_top moves_with
+  unfolding write_top
   write_top_lem p b k =
-      decided (OverState p) (is_unlocked w) _ _ (λ _. d-quiet (RN.Moved (A.Write (Wr.ExchangeContended b w))) refl (rw k (spins b)))
-      (λ _. decided (OverState p) (has_writers_waiting w) _ _ (λ _. d-quiet (RN.Moved (A.Write Wr.LoadSequence)) refl (rw k (to-sequence b)))
-      (λ _. d-quiet (RN.Moved (A.Write (Wr.SetWaiting b w))) refl (rw k (spins b))))
+      decided (OverState p) (is_unlocked w) _ _ (λ _. d-quiet (Nx.Moved (A.Write (Wr.ExchangeContended b w))) refl (rw k (spins b)))
+      (λ _. decided (OverState p) (has_writers_waiting w) _ _ (λ _. d-quiet (Nx.Moved (A.Write Wr.LoadSequence)) refl (rw k (to-sequence b)))
+      (λ _. d-quiet (Nx.Moved (A.Write (Wr.SetWaiting b w))) refl (rw k (spins b))))
 
   with-codes :
       (b : Bool) →
@@ -383,20 +386,20 @@ module _ (w n : ℕ) (found : Bool) (lt : w < 2 ^ 32) where
 
   -- the positions of write over the state
   write-did : (p : WriteAt) (f : Bool) → write_passed p ≡ true → write_operand p ≡ K.RwLock → OverState (A.Write p) (write_of p f w)
-  unfolding write_of moves_with sleeps ends write_after_wait write_passed write_operand
+  unfolding write_of write_after_wait write_passed write_operand
   write-did Wr.Exchange f ok _ =
       decided (OverState (A.Write Wr.Exchange)) (exchanges w 0 f) _ _
       (λ q. let e : w ≡ 0 = exchanged w 0 f q in
       d-takes-write WRITE_LOCKED 0 1 (ap count e ∙ free-reads.count-is) (rw (e, free-reads.readers-are) locked-reads)
       (λ x. absurd (zero_one (sym free-reads.writers-are ∙ sym (ap writers_waiting e) ∙ x))) (inr (inl refl)))
-      (λ _. d-quiet (RN.Moved (A.Write (Wr.Spin false SPINS))) refl writes-on)
+      (λ _. d-quiet (Nx.Moved (A.Write (Wr.Spin false SPINS))) refl writes-on)
     where
       zero_one : ◌≡◌ {A = ℕ} 0 1 → ⊥
       zero_one e = omega arith
   write-did (Wr.Spin others left) f ok _ =
       decided (OverState (A.Write (Wr.Spin others left))) (stops_write w || eqb left 0) _ _
       (λ _. write_top_lem (A.Write (Wr.Spin others left)) others refl)
-      (λ _. d-quiet (RN.Moved (A.Write (Wr.Spin others (left - 1)))) refl (spins others))
+      (λ _. d-quiet (Nx.Moved (A.Write (Wr.Spin others (left - 1)))) refl (spins others))
   write-did (Wr.ExchangeContended others seen) f ok _ =
       decided (OverState (A.Write (Wr.ExchangeContended others seen))) (exchanges w seen f) _ _
       (λ q. let e : w ≡ seen = exchanged w seen f q in let z : count w ≡ 0 = ap count e ∙ count_none seen ok in
@@ -416,26 +419,26 @@ module _ (w n : ℕ) (found : Bool) (lt : w < 2 ^ 32) where
           OverState (A.Write (Wr.LoadState sequence)) (cond (u || not v) (write_top true w) (moves_with w (A.Write (Wr.Wait sequence)) H.Same W.None))
       go true a v b = write_top_lem (A.Write (Wr.LoadState sequence)) true refl
       go false a false b = write_top_lem (A.Write (Wr.LoadState sequence)) true refl
-      go false a true b = d-quiet (RN.Moved (A.Write (Wr.Wait sequence))) refl (to-write-wait (count-some w a) (writers-set w b))
+      go false a true b = d-quiet (Nx.Moved (A.Write (Wr.Wait sequence))) refl (to-write-wait (count-some w a) (writers-set w b))
   write-did (Wr.Wait sequence) f ok k = kinds-differ (sym k)
 
   -- .. and over writer_notify
   write-did-notify : (p : WriteAt) (f : Bool) → write_operand p ≡ K.WriterNotify → OverNotify (A.Write p) (write_of p f n)
-  unfolding write_of moves_with sleeps ends write_after_wait write_operand
+  unfolding write_of write_after_wait write_operand
   write-did-notify Wr.Exchange f k = kinds-differ k
   write-did-notify (Wr.Spin others left) f k = kinds-differ k
   write-did-notify (Wr.ExchangeContended others seen) f k = kinds-differ k
   write-did-notify (Wr.SetWaiting others seen) f k = kinds-differ k
-  write-did-notify Wr.LoadSequence f k = d-quiet (RN.Moved (A.Write (Wr.LoadState n))) refl beside-others
+  write-did-notify Wr.LoadSequence f k = d-quiet (Nx.Moved (A.Write (Wr.LoadState n))) refl beside-others
   write-did-notify (Wr.LoadState sequence) f k = kinds-differ k
   write-did-notify (Wr.Wait sequence) f k =
       decided (OverNotify (A.Write (Wr.Wait sequence))) (eqb n sequence) _ _
       (λ q. d-sleeps-writer (ap (λ (x : ℕ). A.Write (Wr.Wait x)) (sym (eqb-true n sequence q))))
-      (λ _. d-quiet (RN.Moved (A.Write (Wr.Spin true SPINS))) refl from-write-wait)
+      (λ _. d-quiet (Nx.Moved (A.Write (Wr.Spin true SPINS))) refl from-write-wait)
 
   -- wake_writer_or_readers
   wake-did : (b : Bool) (p : WakeAt) → wake_operand p ≡ K.RwLock → OverState (A.Wake b p) (wake_of b p w found)
-  unfolding wake_of wake_rest moves_with ends wake_operand
+  unfolding wake_of wake_rest wake_operand
   wake-did b Wk.ExchangeWriters _ = go (eqb w WRITERS_WAITING) refl (eqb w BOTH) refl (eqb w READERS_WAITING) refl
     where
       neither : eqb w WRITERS_WAITING ≡ false → eqb w BOTH ≡ false → (k : ℕ) → readers_waiting w ≡ k → (count w ≡ 0) × (writers_waiting w ≡ 1) → ⊥
@@ -449,39 +452,39 @@ module _ (w n : ℕ) (found : Bool) (lt : w < 2 ^ 32) where
           (cond d (moves_with w (A.Wake b Wk.ExchangeReaders) H.Same W.None) (ends w 1 H.Same W.None))))
       go true p c q d r = d-exchanges-writers b refl (eqb-true w WRITERS_WAITING p)
       go false p true q d r =
-          d-quiet (RN.Moved (A.Wake b Wk.ExchangeBoth)) refl (finds-both (ap readers_waiting (eqb-true w BOTH q) ∙ both-reads.readers-are))
+          d-quiet (Nx.Moved (A.Wake b Wk.ExchangeBoth)) refl (finds-both (ap readers_waiting (eqb-true w BOTH q) ∙ both-reads.readers-are))
       go false p false q true r =
-          d-quiet (RN.Moved (A.Wake b Wk.ExchangeReaders)) refl
+          d-quiet (Nx.Moved (A.Wake b Wk.ExchangeReaders)) refl
           (finds-readers (ap writers_waiting (eqb-true w READERS_WAITING r) ∙ readers-reads.writers-are))
-      go false p false q false r = d-quiet (RN.Ended 1) refl (writers-end (λ x. neither p q (readers_waiting w) refl x))
+      go false p false q false r = d-quiet (Nx.Ended 1) refl (writers-end (λ x. neither p q (readers_waiting w) refl x))
   wake-did b Wk.ExchangeBoth _ =
       decided (OverState (A.Wake b Wk.ExchangeBoth)) (eqb w BOTH) _ _ (λ q. d-exchanges-both b refl (eqb-true w BOTH q))
-      (λ q. d-quiet (RN.Ended 1) refl (both_end (λ x. eqb-false w BOTH q (exactly w 1 1 lt x.0 x.1 x.2))))
+      (λ q. d-quiet (Nx.Ended 1) refl (both_end (λ x. eqb-false w BOTH q (exactly w 1 1 lt x.0 x.1 x.2))))
   wake-did b (Wk.Notify both) k = kinds-differ (sym k)
   wake-did b (Wk.WakeWriter both) k = kinds-differ (sym k)
   wake-did b Wk.ExchangeReaders _ =
       decided (OverState (A.Wake b Wk.ExchangeReaders)) (eqb w READERS_WAITING) _ _ (λ q. d-exchanges-readers b refl (eqb-true w READERS_WAITING q))
-      (λ q. d-quiet (RN.Ended 1) refl (readers-end (λ x. eqb-false w READERS_WAITING q (exactly w 1 0 lt x.0 x.1 x.2))))
+      (λ q. d-quiet (Nx.Ended 1) refl (readers-end (λ x. eqb-false w READERS_WAITING q (exactly w 1 0 lt x.0 x.1 x.2))))
   wake-did b Wk.WakeReaders _ = d-wakes-readers 1 refl (inl (b, refl))
 
   wake-did-notify : (b : Bool) (p : WakeAt) → wake_operand p ≡ K.WriterNotify → OverNotify (A.Wake b p) (wake_of b p n found)
-  unfolding wake_of moves_with ends wake_operand
+  unfolding wake_of wake_operand
   wake-did-notify b Wk.ExchangeWriters k = kinds-differ k
   wake-did-notify b Wk.ExchangeBoth k = kinds-differ k
   wake-did-notify b (Wk.Notify both) k = d-notifies b both refl
   wake-did-notify b (Wk.WakeWriter both) k =
       decided (OverNotify (A.Wake b (Wk.WakeWriter both))) (both && not found) _ _
-      (λ q. d-wakes-writer b both refl (RN.Moved (A.Wake b Wk.ExchangeReaders)) refl (rw q refl))
-      (λ q. d-wakes-writer b both refl (RN.Ended 1) refl (rw q refl))
+      (λ q. d-wakes-writer b both refl (Nx.Moved (A.Wake b Wk.ExchangeReaders)) refl (rw q refl))
+      (λ q. d-wakes-writer b both refl (Nx.Ended 1) refl (rw q refl))
   wake-did-notify b Wk.ExchangeReaders k = kinds-differ k
   wake-did-notify b Wk.WakeReaders k = kinds-differ k
 
   downgrade-did : (p : DowngradeAt) → OverState (A.Downgrade p) (downgrade_of p w)
-  unfolding downgrade_of moves_with ends
+  unfolding downgrade_of
   downgrade-did D.Add =
       decided (OverState (A.Downgrade D.Add)) (has_readers_waiting w) _ _
-      (λ q. d-downgrades refl (RN.Moved (A.Downgrade D.Subtract)) refl (inl (readers-set w q, refl)))
-      (λ q. d-downgrades refl (RN.Ended 1) refl (inr (readers-clear w q, refl)))
+      (λ q. d-downgrades refl (Nx.Moved (A.Downgrade D.Subtract)) refl (inl (readers-set w q, refl)))
+      (λ q. d-downgrades refl (Nx.Ended 1) refl (inr (readers-clear w q, refl)))
   downgrade-did D.Subtract = d-subtracts refl
   downgrade-did D.WakeReaders = d-wakes-readers 1 refl (inr refl)
 

@@ -17,13 +17,14 @@ use Rattle.words.specs.declared.Wake.{Wake}
 use Rattle.words.specs.declared.Wake.TheVariants as W
 use Rattle.words.specs.declared.Kind.{Kind}
 use Rattle.words.specs.declared.Kind.TheVariants as K
+use Rattle.words.specs.declared.Next.{Next}
+use Rattle.words.specs.declared.Next.TheVariants as Nx
+use Rattle.words.specs.Steps as St
 use Rattle.rwlock.specs.declared.WriteAt.TheVariants as Wr
 use Rattle.rwlock.specs.declared.WakeAt.TheVariants as Wk
 use Rattle.rwlock.specs.declared.DowngradeAt.TheVariants as D
 use Rattle.rwlock.specs.declared.RwLockAt.{RwLockAt}
 use Rattle.rwlock.specs.declared.RwLockAt.TheVariants as Rw
-use Rattle.rwlock.specs.declared.RwLockNext.{RwLockNext}
-use Rattle.rwlock.specs.declared.RwLockNext.TheVariants as RN
 use Rattle.rwlock.specs.Positions as RwP
 use Rattle.rwlock.specs.RwLock as RwS
 use Rattle.queue.specs.Row.{THREADS, occ}
@@ -94,16 +95,16 @@ down-thread l w s u d = here-thread l w s u (downs-here l (thread_at w u).at d)
 
 -- a wake of one writer
 one-wake : (b both f : Bool) (word : ℕ) (a : Bool) → (RwS.decide_of (Rw.Wake b (Wk.WakeWriter both)) f word a).wake ≡ W.One
-unfolding RwS.decide_of RwS.wake_of RwS.moves_with RwS.ends
+unfolding RwS.decide_of RwS.wake_of
 one-wake b both f word a = go (both && not a)
   where
-    go : (c : Bool) → (cond c (RwS.moves_with word (Rw.Wake b Wk.ExchangeReaders) H.Same W.One) (RwS.ends word 1 H.Same W.One)).wake ≡ W.One
+    go : (c : Bool) → (cond c (St.moves_with word (Rw.Wake b Wk.ExchangeReaders) H.Same W.One) (St.ends word 1 H.Same W.One)).wake ≡ W.One
     go true = refl
     go false = refl
 
 -- a step that sleeps has read no sequence
-asleep-since : (n s : ℕ) (p : RwLockAt) (f : Bool) (word : ℕ) (a : Bool) → (RwS.decide_of p f word a).next ≡ RN.Asleep → since_of n s p ≡ s
-unfolding RwS.decide_of RwS.write_of RwS.moves_with
+asleep-since : (n s : ℕ) (p : RwLockAt) (f : Bool) (word : ℕ) (a : Bool) → (RwS.decide_of p f word a).next ≡ Nx.Asleep → since_of n s p ≡ s
+unfolding RwS.decide_of RwS.write_of
 asleep-since n s (Rw.Read p) f word a e = refl
 asleep-since n s (Rw.TryRead p) f word a e = refl
 asleep-since n s Rw.ReadUnlock f word a e = refl
@@ -193,7 +194,7 @@ module _
   abbrev n' : ℕ
   n' = n + adds_of (code_of p)
 
-  abbrev x : RwLockNext
+  abbrev x : Next RwLockAt
   x = (RwS.decide_of p f (word_at w k) found).next
 
   abbrev X : LockView
@@ -355,7 +356,7 @@ module _
   )
 
   wake-all : ((b : Bool) × (p ≡ Rw.Wake b Wk.WakeReaders)) ⊎ (p ≡ Rw.Downgrade D.WakeReaders) → (k ≡ word_of K.RwLock l) × (m ≡ length (queue_at w k))
-  unfolding RwP.operand_of RwP.wake_operand number_woken RwS.decide_of RwS.wake_of RwS.downgrade_of RwS.ends
+  unfolding RwP.operand_of RwP.wake_operand number_woken RwS.decide_of RwS.wake_of RwS.downgrade_of
   wake-all (inl (b, e)) = (
     k-is ∙ ap (λ (y : RwLockAt). word_of (RwP.operand_of y) l) e,
     m-is ∙ ap (λ (y : Wake). number_woken y (queue_at w k))
@@ -404,7 +405,7 @@ module _
 
   -- ---- together
 
-  no-sleep : x ≡ RN.Asleep → s' ≡ s
+  no-sleep : x ≡ Nx.Asleep → s' ≡ s
   no-sleep e = asleep-since n (B.since t) p f (word_at w k) found e
 
   kept-inv : Invariant Few X'

@@ -13,15 +13,16 @@ use Rattle.words.proofs.Readings.{Reads as Has, count-le, readers-le, writers-le
 use Rattle.words.specs.declared.Hold.{Hold}
 use Rattle.words.specs.declared.Hold.TheVariants as H
 use Rattle.words.specs.declared.Wake.TheVariants as W
+use Rattle.words.specs.declared.Next.{Next}
+use Rattle.words.specs.declared.Next.TheVariants as Nx
+use Rattle.words.specs.declared.Step.{Step}
+use Rattle.words.specs.Steps.{moves_with, ends}
 use Rattle.rwlock.specs.declared.WriteAt.TheVariants as Wr
 use Rattle.rwlock.specs.declared.WakeAt.TheVariants as Wk
 use Rattle.rwlock.specs.declared.DowngradeAt.TheVariants as D
 use Rattle.rwlock.specs.declared.RwLockAt.{RwLockAt}
 use Rattle.rwlock.specs.declared.RwLockAt.TheVariants as A
-use Rattle.rwlock.specs.declared.RwLockNext.{RwLockNext}
-use Rattle.rwlock.specs.declared.RwLockNext.TheVariants as RN
-use Rattle.rwlock.specs.declared.RwLockStep.{RwLockStep}
-use Rattle.rwlock.specs.RwLock.{moves_with, ends, wake_rest, wake_top, read_unlock_of, write_unlock_of}
+use Rattle.rwlock.specs.RwLock.{wake_rest, wake_top, read_unlock_of, write_unlock_of}
 use Rattle.kept.proofs.RwLockWords.{subtracted-wide}
 use Rattle.words.proofs.Cond.{either}
 use Rattle.kept.proofs.Tests.{no_way}
@@ -50,17 +51,19 @@ pub record Woken (X : LockView) (t : ℕ) (found : Bool) (p : RwLockAt) : Type 0
   pub all_paid : ((b : Bool) × (p ≡ A.Wake b Wk.WakeReaders)) ⊎ (p ≡ A.Downgrade D.WakeReaders) → (u : ℕ) → reader_sleeps (X.of u) ≡ true → ⊥
 
 -- where a thread at p stands after a step
-abbrev pub place_after : RwLockAt → RwLockNext → ℕ → Place
-place_after p (RN.Moved q) s = up (code_of q) s
-place_after p RN.Asleep s = down (code_of p) s
-place_after p (RN.Ended value) s = up outside s
-place_after p (RN.Panic number) s = up outside s
+abbrev pub place_after : RwLockAt → Next RwLockAt → ℕ → Place
+place_after p (Nx.Moved q) s = up (code_of q) s
+place_after p Nx.Asleep s = down (code_of p) s
+place_after p (Nx.Ended value) s = up outside s
+place_after p (Nx.Panics number) s = up outside s
+place_after p (Nx.Closure q) s = up (code_of q) s
 
-pub after-awake : (p : RwLockAt) (x : RwLockNext) (s : ℕ) → stays_awake x ≡ true → place_after p x s ≡ up (next_code x) s
-after-awake p (RN.Moved q) s e = refl
-after-awake p RN.Asleep s e = no_way e
-after-awake p (RN.Ended value) s e = refl
-after-awake p (RN.Panic number) s e = refl
+pub after-awake : (p : RwLockAt) (x : Next RwLockAt) (s : ℕ) → stays_awake x ≡ true → place_after p x s ≡ up (next_code x) s
+after-awake p (Nx.Moved q) s e = refl
+after-awake p Nx.Asleep s e = no_way e
+after-awake p (Nx.Ended value) s e = refl
+after-awake p (Nx.Panics number) s e = refl
+after-awake p (Nx.Closure q) s e = refl
 
 -- how many notifications a step from a place is
 abbrev pub adds_of : ℕ → ℕ
@@ -83,7 +86,7 @@ quiet-adds (readers-end a) = refl
 
 -- writer_notify goes up by that much
 pub did-notifies :
-    (w n : ℕ) (found : Bool) (p : RwLockAt) (w' n' : ℕ) (x : RwLockNext) → n < 2 ^ 32 → Did w n found p w' n' x →
+    (w n : ℕ) (found : Bool) (p : RwLockAt) (w' n' : ℕ) (x : Next RwLockAt) → n < 2 ^ 32 → Did w n found p w' n' x →
     n' ≡ (n + adds_of (code_of p)) % 2 ^ 32
 unfolding wrapping_add
 did-notifies w n found p w' n' x h D = go D
@@ -103,7 +106,7 @@ did-notifies w n found p w' n' x h D = go D
     notes b true e = ap (λ (q : RwLockAt). adds_of (code_of q)) e
     notes b false e = ap (λ (q : RwLockAt). adds_of (code_of q)) e
 
-    go : {w' n' : ℕ} {x : RwLockNext} → Did w n found p w' n' x → n' ≡ (n + adds_of (code_of p)) % 2 ^ 32
+    go : {w' n' : ℕ} {x : Next RwLockAt} → Did w n found p w' n' x → n' ≡ (n + adds_of (code_of p)) % 2 ^ 32
     go (d-quiet y k q) = stays (code_of p) refl (quiet-adds q)
     go (d-takes-read y v k r J) = stays outside k refl
     go (d-sets-readers y k r why J) = stays outside k refl
@@ -127,7 +130,7 @@ did-notifies w n found p w' n' x h D = go D
 -- wake_writer_or_readers on an unlocked state goes on by its flags
 wake-onward : (b : Bool) (st : ℕ) (hold : Hold) → st < 2 ^ 32 → count st ≡ 0 →
     (stays_awake (wake_top b st hold).next ≡ true) × Onward (readers_waiting st) (writers_waiting st) (next_code (wake_top b st hold).next)
-unfolding wake_top wake_rest moves_with ends
+unfolding wake_top wake_rest
 wake-onward b st hold lt z = go (readers_waiting st) refl (writers_waiting st) refl
   where
     go :
@@ -143,23 +146,23 @@ wake-onward b st hold lt z = go (readers_waiting st) refl (writers_waiting st) r
 
 -- the steps that free, over the state left
 top-word : (b : Bool) (st : ℕ) (hold : Hold) → (wake_top b st hold).word ≡ st
-unfolding wake_top wake_rest moves_with ends
+unfolding wake_top wake_rest
 top-word b st hold =
     either P (eqb st WRITERS_WAITING) _ _ refl (either P (eqb st BOTH) _ _ refl (either P (eqb st READERS_WAITING) _ _ refl refl))
   where
-    P : RwLockStep → Type 0
+    P : Step RwLockAt → Type 0
     P s = s.word ≡ st
 
 free-read-word : (w : ℕ) → (read_unlock_of w).word ≡ read_unlocked w
-unfolding read_unlock_of ends
+unfolding read_unlock_of
 free-read-word w =
-    either (λ (s : RwLockStep). s.word ≡ read_unlocked w) (is_unlocked (read_unlocked w) && has_writers_waiting (read_unlocked w)) _ _
+    either (λ (s : Step RwLockAt). s.word ≡ read_unlocked w) (is_unlocked (read_unlocked w) && has_writers_waiting (read_unlocked w)) _ _
     (top-word false (read_unlocked w) H.FreeRead) refl
 
 free-write-word : (w : ℕ) → (write_unlock_of w).word ≡ write_unlocked w
-unfolding write_unlock_of ends
+unfolding write_unlock_of
 free-write-word w =
-    either (λ (s : RwLockStep). s.word ≡ write_unlocked w) (has_writers_waiting (write_unlocked w) || has_readers_waiting (write_unlocked w)) _ _
+    either (λ (s : Step RwLockAt). s.word ≡ write_unlocked w) (has_writers_waiting (write_unlocked w) || has_readers_waiting (write_unlocked w)) _ _
     (top-word true (write_unlocked w) H.FreeWrite) refl
 
 -- a read unlock that leaves the state unlocked with WRITERS_WAITING, or not
@@ -184,7 +187,7 @@ write-onward : (st : ℕ) → st < 2 ^ 32 → count st ≡ 0 →
     (stays_awake (cond (has_writers_waiting st || has_readers_waiting st) (wake_top true st H.FreeWrite) (ends st 1 H.FreeWrite W.None)).next ≡ true)
     × Onward (readers_waiting st) (writers_waiting st)
     (next_code (cond (has_writers_waiting st || has_readers_waiting st) (wake_top true st H.FreeWrite) (ends st 1 H.FreeWrite W.None)).next)
-unfolding ends has_writers_waiting has_readers_waiting
+unfolding has_writers_waiting has_readers_waiting
 write-onward st lt z = go (eqb (writers_waiting st) 1) refl (eqb (readers_waiting st) 1) refl
   where
     flag : (k : ℕ) → k ≤ 1 → (k ≡ 1 → ⊥) → k ≡ 0
@@ -251,7 +254,7 @@ module _
   frees-read :
       p ≡ A.ReadUnlock → Sees X' (read_unlock_of w).word → X'.adds ≡ X.adds →
       Update X.of X'.of t (place_after p (read_unlock_of w).next s') → Invariant Few X'
-  unfolding stands about_to_notify answers_writers ends
+  unfolding stands about_to_notify answers_writers
   frees-read e S₀ a U = go (count w - 1) refl (writers_waiting w) refl
     where
       st : ℕ
@@ -279,7 +282,7 @@ module _
               no (inr (_, (u, y))) = (counted.reader e).2 u y
 
       rests : (count (read_unlocked w) ≡ 0 → writers_waiting (read_unlocked w) ≡ 1 → ⊥) → Update X.of X'.of t (up outside s')
-      rests never = subst (λ (x : RwLockStep). Update X.of X'.of t (place_after p x.next s')) (read-rests w never) U
+      rests never = subst (λ (x : Step RwLockAt). Update X.of X'.of t (place_after p x.next s')) (read-rests w never) U
 
       zero-R : count w - 1 ≡ 0 → Reads X' 0 X.readers X.writers X.adds
       zero-R h = rw (S.readers-seen, S.writers-seen) (reads S' (rw h at J) a)
@@ -304,7 +307,7 @@ module _
 
           wakes : Update X.of X'.of t (place_after p (wake_top false (read_unlocked w) H.FreeRead).next s')
           wakes =
-              subst (λ (x : RwLockStep). Update X.of X'.of t (place_after p x.next s'))
+              subst (λ (x : Step RwLockAt). Update X.of X'.of t (place_after p x.next s'))
               (read-wakes w (J.count-is ∙ h) (J.writers-are ∙ one)) U
       go (suc c) h v q =
           read-leaves (move (ap code_of e) (rests (λ y _. absurd (omega (arith, J.count-is))))) I (counted.reader e).2
@@ -340,7 +343,7 @@ module _
       onward = write-onward (write_unlocked w) (subtracted-wide w MASK) J.count-is
 
   pub own-step :
-      (w' n' : ℕ) (x : RwLockNext) → Did w n found p w' n' x → Sees X' w' → X'.adds ≡ X.adds + adds_of (code_of p) → (x ≡ RN.Asleep → s' ≡ s) →
+      (w' n' : ℕ) (x : Next RwLockAt) → Did w n found p w' n' x → Sees X' w' → X'.adds ≡ X.adds + adds_of (code_of p) → (x ≡ Nx.Asleep → s' ≡ s) →
       Update X.of X'.of t (place_after p x s') → Invariant Few X'
   unfolding stands about_to_notify answers_writers
   own-step w' n' x (d-quiet y k q) S' a z U =

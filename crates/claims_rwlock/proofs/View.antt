@@ -8,6 +8,10 @@ use borrow.Author.Tests.{eqb-true, eq-eqb}
 use Rattle.words.specs.RwLock.{count, readers_waiting, writers_waiting}
 use Rattle.words.specs.declared.Kind.{Kind}
 use Rattle.words.specs.declared.Kind.TheVariants as K
+use Rattle.words.specs.declared.Next.{Next}
+use Rattle.words.specs.declared.Next.TheVariants as Nx
+use Rattle.words.specs.declared.Step.{Step}
+use Rattle.words.specs.Steps.{map_next}
 use Rattle.rwlock.specs.declared.ReadAt.{ReadAt}
 use Rattle.rwlock.specs.declared.ReadAt.TheVariants as R
 use Rattle.rwlock.specs.declared.WriteAt.{WriteAt}
@@ -15,9 +19,6 @@ use Rattle.rwlock.specs.declared.WriteAt.TheVariants as Wr
 use Rattle.rwlock.specs.declared.WakeAt.TheVariants as Wk
 use Rattle.rwlock.specs.declared.RwLockAt.{RwLockAt}
 use Rattle.rwlock.specs.declared.RwLockAt.TheVariants as Rw
-use Rattle.rwlock.specs.declared.RwLockNext.{RwLockNext}
-use Rattle.rwlock.specs.declared.RwLockNext.TheVariants as RN
-use Rattle.rwlock.specs.declared.RwLockStep.{RwLockStep}
 use Rattle.rwlock.specs.Positions as RwP
 use Rattle.rwlock.specs.RwLock.{read_after_wait, write_after_wait}
 use Rattle.mutex.specs.Mutex as Mx
@@ -31,7 +32,7 @@ use Rattle.calls.specs.declared.At.{At}
 use Rattle.calls.specs.declared.At.TheVariants as A
 use Rattle.calls.specs.declared.Thread.{Thread}
 use Rattle.calls.specs.Objects.{WORDS, size_of, word_of}
-use Rattle.calls.specs.Plans.{moved, slept, done, panicked, rwlock_next, rwlock_plan}
+use Rattle.calls.specs.Plans.{moved, slept, done, panicked, rwlock_plan, plan_next, plan_of, entered}
 use Rattle.calls.specs.Positions.{operand_of, after_wait, waits_of}
 use Rattle.world.specs.declared.World.{World}
 use Rattle.world.specs.World.{thread_at, word_at}
@@ -234,15 +235,16 @@ far-word l t at kind k h within e q =
 
 -- ---- a step of a call on this lock
 
-pub near_next : (l : ℕ) (p : RwLockAt) (st : RwLockStep) (s : ℕ) → place_of l (rwlock_plan l p st).next s ≡ place_after p st.next s
-unfolding rwlock_plan moved slept here done panicked
+pub near_next : (l : ℕ) (p : RwLockAt) (st : Step RwLockAt) (s : ℕ) → place_of l (rwlock_plan l p st).next s ≡ place_after p st.next s
+unfolding plan_of moved slept here done panicked entered
 near_next l p st s = go st.next
   where
-    go : (x : RwLockNext) → place_of l (rwlock_next l p st.word st.hold st.wake x).next s ≡ place_after p x s
-    go (RN.Moved q) = near_up l q s
-    go RN.Asleep = near_down l p s
-    go (RN.Ended value) = away l A.Idle false s refl
-    go (RN.Panic number) = away l A.Idle false s refl
+    go : (x : Next RwLockAt) → place_of l (plan_next (A.RwLock l p) l st.word st.hold st.wake (map_next (A.RwLock l) x)).next s ≡ place_after p x s
+    go (Nx.Moved q) = near_up l q s
+    go Nx.Asleep = near_down l p s
+    go (Nx.Ended value) = away l A.Idle false s refl
+    go (Nx.Panics number) = away l A.Idle false s refl
+    go (Nx.Closure q) = near_up l q s
 
 -- one of the two words
 pub two-words : (p : RwLockAt) → (RwP.operand_of p ≡ K.RwLock) ⊎ (RwP.operand_of p ≡ K.WriterNotify)

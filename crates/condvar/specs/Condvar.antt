@@ -6,16 +6,13 @@ use Rattle.words.specs.declared.Kind.{Kind}
 use Rattle.words.specs.declared.Kind.TheVariants as K
 use Rattle.words.specs.declared.Needs.{Needs}
 use Rattle.words.specs.declared.Needs.TheVariants as N
-use Rattle.words.specs.declared.Wake.{Wake}
 use Rattle.words.specs.declared.Wake.TheVariants as W
+use Rattle.words.specs.declared.Step.{Step}
+use Rattle.words.specs.Steps.{moves, sleeps, ends, map_step, then_step}
+use Rattle.mutex.specs.declared.LockAt.{LockAt}
+use Rattle.mutex.specs.declared.UnlockAt.{UnlockAt}
 use Rattle.mutex.specs.declared.LockAt.TheVariants as L
-use Rattle.mutex.specs.declared.LockNext.{LockNext}
-use Rattle.mutex.specs.declared.LockNext.TheVariants as LN
-use Rattle.mutex.specs.declared.LockStep.{LockStep}
 use Rattle.mutex.specs.declared.UnlockAt.TheVariants as U
-use Rattle.mutex.specs.declared.UnlockNext.{UnlockNext}
-use Rattle.mutex.specs.declared.UnlockNext.TheVariants as UN
-use Rattle.mutex.specs.declared.UnlockStep.{UnlockStep}
 use Rattle.mutex.specs.Mutex.{lock_of, unlock_of, lock_after_wait, lock_passed, unlock_needs, lock_waits, unlock_may_wake}
 use Rattle.condvar.specs.declared.CondvarCall.{CondvarCall}
 use Rattle.condvar.specs.declared.CondvarCall.TheVariants as C
@@ -25,25 +22,12 @@ use Rattle.condvar.specs.declared.NotifyAt.{NotifyAt}
 use Rattle.condvar.specs.declared.NotifyAt.TheVariants as Nf
 use Rattle.condvar.specs.declared.CondvarAt.{CondvarAt}
 use Rattle.condvar.specs.declared.CondvarAt.TheVariants as A
-use Rattle.condvar.specs.declared.CondvarNext.{CondvarNext}
-use Rattle.condvar.specs.declared.CondvarNext.TheVariants as CN
-use Rattle.condvar.specs.declared.CondvarStep.{CondvarStep}
 
 -- where each call starts
 unfoldable pub entry_of : CondvarCall → CondvarAt
 entry_of (C.Wait mutex) = A.Wait mutex Wt.Load
 entry_of C.NotifyOne = A.Notify false Nf.Add
 entry_of C.NotifyAll = A.Notify true Nf.Add
-
--- a step leads on, sleeps, or ends the call; no call of these returns a value, which is told as 1
-unfoldable pub moves : ℕ → CondvarAt → CondvarStep
-moves word at = record { word = word; next = CN.Moved at; hold = H.Same; wake = W.None }
-
-unfoldable pub sleeps : ℕ → CondvarStep
-sleeps word = record { word = word; next = CN.Asleep; hold = H.Same; wake = W.None }
-
-unfoldable pub ends : ℕ → Wake → CondvarStep
-ends word wake = record { word = word; next = CN.Ended 1; hold = H.Same; wake = wake }
 
 -- after a futex_wait, woken or not: on the condvar `mutex.lock()`, and inside that as `lock` has it
 unfoldable pub wait_after_wait : WaitAt → WaitAt
@@ -53,24 +37,16 @@ wait_after_wait (Wt.Wait sequence) = Wt.Relock L.Exchange
 wait_after_wait (Wt.Relock p) = Wt.Relock (lock_after_wait p)
 
 -- `mutex.unlock()`, after which comes the futex_wait on the sequence seen before it
-abbrev pub unlock_next : ℕ → ℕ → UnlockNext → CondvarNext
-unlock_next mutex sequence (UN.Moved p) = CN.Moved (A.Wait mutex (Wt.Unlock sequence p))
-unlock_next mutex sequence UN.Ended = CN.Moved (A.Wait mutex (Wt.Wait sequence))
-
-unfoldable pub unlock_step : ℕ → ℕ → UnlockStep → CondvarStep
-unlock_step mutex sequence s = record { word = s.word; next = unlock_next mutex sequence s.next; hold = s.hold; wake = s.wake }
+unfoldable pub unlock_step : ℕ → ℕ → Step UnlockAt → Step CondvarAt
+unlock_step mutex sequence s = then_step (λ (p : UnlockAt). A.Wait mutex (Wt.Unlock sequence p)) (A.Wait mutex (Wt.Wait sequence)) s
 
 -- `mutex.lock()`, whose end is the call's
-abbrev pub relock_next : ℕ → LockNext → CondvarNext
-relock_next mutex (LN.Moved p) = CN.Moved (A.Wait mutex (Wt.Relock p))
-relock_next mutex LN.Asleep = CN.Asleep
-relock_next mutex LN.Ended = CN.Ended 1
+unfoldable pub relock_step : ℕ → Step LockAt → Step CondvarAt
+relock_step mutex s = map_step (λ (p : LockAt). A.Wait mutex (Wt.Relock p)) s
 
-unfoldable pub relock_step : ℕ → LockStep → CondvarStep
-relock_step mutex s = record { word = s.word; next = relock_next mutex s.next; hold = s.hold; wake = s.wake }
-
+-- no call of these returns a value, which is told as 1
 -- `wait`: the counter is examined before the mutex is unlocked, so that no notification after that is missed
-unfoldable pub wait_of : ℕ → WaitAt → ℕ → CondvarStep
+unfoldable pub wait_of : ℕ → WaitAt → ℕ → Step CondvarAt
 wait_of mutex Wt.Load word = moves word (A.Wait mutex (Wt.Unlock word U.Swap))
 wait_of mutex (Wt.Unlock sequence p) word = unlock_step mutex sequence (unlock_of p word)
 wait_of mutex (Wt.Wait sequence) word =
@@ -78,12 +54,12 @@ wait_of mutex (Wt.Wait sequence) word =
 wait_of mutex (Wt.Relock p) word = relock_step mutex (lock_of p word)
 
 -- `notify_one` and `notify_all`
-unfoldable pub notify_of : Bool → NotifyAt → ℕ → CondvarStep
+unfoldable pub notify_of : Bool → NotifyAt → ℕ → Step CondvarAt
 notify_of all Nf.Add word = moves (incremented word) (A.Notify all Nf.Wake)
-notify_of all Nf.Wake word = ends word (cond all W.All W.One)
+notify_of all Nf.Wake word = ends word 1 H.Same (cond all W.All W.One)
 
 -- one step, over the word that it is about
-unfoldable pub decide_of : CondvarAt → Bool → ℕ → Bool → CondvarStep
+unfoldable pub decide_of : CondvarAt → Bool → ℕ → Bool → Step CondvarAt
 decide_of (A.Wait mutex p) fails word anyone = wait_of mutex p word
 decide_of (A.Notify all p) fails word anyone = notify_of all p word
 

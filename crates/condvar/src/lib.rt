@@ -1,12 +1,12 @@
 // std's futex condvar (condvar/futex.rs) as a step machine: a step runs one atomic operation or one
 // futex call, then the local code up to the next one. A wait's mutex part is the mutex's own steps.
-#![tactic(auto, unfolding(crate::specs::Condvar::after_wait, crate::specs::Condvar::decide_of, crate::specs::Condvar::ends, crate::specs::Condvar::entry_of, crate::specs::Condvar::may_wake, crate::specs::Condvar::moves, crate::specs::Condvar::mutex_of, crate::specs::Condvar::needs_of, crate::specs::Condvar::notify_may_wake, crate::specs::Condvar::notify_of, crate::specs::Condvar::object_of, crate::specs::Condvar::operand_of, crate::specs::Condvar::passed_of, crate::specs::Condvar::relock_step, crate::specs::Condvar::sleeps, crate::specs::Condvar::unlock_step, crate::specs::Condvar::wait_after_wait, crate::specs::Condvar::wait_may_wake, crate::specs::Condvar::wait_needs, crate::specs::Condvar::wait_object, crate::specs::Condvar::wait_of, crate::specs::Condvar::wait_operand, crate::specs::Condvar::wait_passed, crate::specs::Condvar::wait_waits, crate::specs::Condvar::waits_of, crate::specs::Condvar::weak_next))]
+#![tactic(auto, unfolding(crate::specs::Condvar::after_wait, crate::specs::Condvar::relock_step, crate::specs::Condvar::decide_of, crate::specs::Condvar::entry_of, crate::specs::Condvar::may_wake, crate::specs::Condvar::mutex_of, crate::specs::Condvar::needs_of, crate::specs::Condvar::notify_may_wake, crate::specs::Condvar::notify_of, crate::specs::Condvar::object_of, crate::specs::Condvar::operand_of, crate::specs::Condvar::passed_of, crate::specs::Condvar::unlock_step, crate::specs::Condvar::wait_after_wait, crate::specs::Condvar::wait_may_wake, crate::specs::Condvar::wait_needs, crate::specs::Condvar::wait_object, crate::specs::Condvar::wait_of, crate::specs::Condvar::wait_operand, crate::specs::Condvar::wait_passed, crate::specs::Condvar::wait_waits, crate::specs::Condvar::waits_of, crate::specs::Condvar::weak_next))]
 
 ghost use Rattle.std.specs.Prelude.{◌≡◌};
-ghost use Rattle.condvar.specs.Condvar.{entry_of, moves, sleeps, ends, unlock_step, relock_step, wait_of, notify_of, decide_of, wait_after_wait, after_wait, wait_operand, operand_of, wait_object, object_of, mutex_of, weak_next, wait_passed, passed_of, wait_needs, needs_of, wait_waits, waits_of, wait_may_wake, notify_may_wake, may_wake};
+ghost use Rattle.condvar.specs.Condvar.{entry_of, wait_of, notify_of, decide_of, wait_after_wait, after_wait, wait_operand, operand_of, wait_object, object_of, mutex_of, weak_next, wait_passed, passed_of, wait_needs, needs_of, wait_waits, waits_of, wait_may_wake, notify_may_wake, may_wake};
 
-use mutex::{LockAt, LockNext, LockStep, UnlockAt, UnlockNext, UnlockStep};
-use words::{CounterWord, Hold, Kind, Needs, Wake};
+use mutex::{LockAt, UnlockAt};
+use words::{CounterWord, Hold, Kind, Needs, Step, Wake};
 
 #[derive(Clone, Copy)]
 pub enum CondvarCall {
@@ -43,28 +43,12 @@ pub enum CondvarAt {
     Notify { all: bool, at: NotifyAt },
 }
 
-#[derive(Clone, Copy)]
-pub enum CondvarNext {
-    Moved(CondvarAt),
-    Asleep,
-    Ended(u8),
-}
-
-// What a step of a call on a condvar does.
-#[derive(Clone, Copy)]
-pub struct CondvarStep {
-    pub word: u32,
-    pub next: CondvarNext,
-    pub hold: Hold,
-    pub wake: Wake,
-}
-
 pub fn entry(call: CondvarCall) -> CondvarAt
     ensures { result ≡ entry_of call }
 {
     match call {
         CondvarCall::Wait { mutex } => CondvarAt::Wait {
-            mutex: mutex,
+            mutex,
             at: WaitAt::Load,
         },
         CondvarCall::NotifyOne => CondvarAt::Notify {
@@ -78,182 +62,54 @@ pub fn entry(call: CondvarCall) -> CondvarAt
     }
 }
 
-fn moves(word: u32, at: CondvarAt) -> CondvarStep
-    ensures { result ≡ moves word at }
-{
-    CondvarStep {
-        word: word,
-        next: CondvarNext::Moved(at),
-        hold: Hold::Same,
-        wake: Wake::None,
-    }
-}
-
-fn sleeps(word: u32) -> CondvarStep
-    ensures { result ≡ sleeps word }
-{
-    CondvarStep {
-        word: word,
-        next: CondvarNext::Asleep,
-        hold: Hold::Same,
-        wake: Wake::None,
-    }
-}
-
-fn ends(word: u32, wake: Wake) -> CondvarStep
-    ensures { result ≡ ends word wake }
-{
-    CondvarStep {
-        word: word,
-        next: CondvarNext::Ended(1),
-        hold: Hold::Same,
-        wake: wake,
-    }
-}
-
-// A step of mutex.unlock() as one of the wait.
-fn unlock_step(mutex: u8, sequence: u32, s: UnlockStep) -> CondvarStep
-    ensures { result ≡ unlock_step mutex sequence s }
-{
-    let next = s.next;
-    let hold = s.hold;
-    let wake = s.wake;
-    match next {
-        UnlockNext::Moved(p) => CondvarStep {
-            word: s.word,
-            next: CondvarNext::Moved(CondvarAt::Wait {
-                mutex: mutex,
-                at: WaitAt::Unlock {
-                    sequence: sequence,
-                    at: p,
-                },
-            }),
-            hold: hold,
-            wake: wake,
-        },
-        UnlockNext::Ended => CondvarStep {
-            word: s.word,
-            next: CondvarNext::Moved(CondvarAt::Wait {
-                mutex: mutex,
-                at: WaitAt::Wait { sequence: sequence },
-            }),
-            hold: hold,
-            wake: wake,
-        },
-    }
-}
-
-// A step of mutex.lock() as one of the wait.
-fn relock_step(mutex: u8, s: LockStep) -> CondvarStep
-    ensures { result ≡ relock_step mutex s }
-{
-    let next = s.next;
-    let hold = s.hold;
-    let wake = s.wake;
-    match next {
-        LockNext::Moved(p) => CondvarStep {
-            word: s.word,
-            next: CondvarNext::Moved(CondvarAt::Wait {
-                mutex: mutex,
-                at: WaitAt::Relock { at: p },
-            }),
-            hold: hold,
-            wake: wake,
-        },
-        LockNext::Asleep => CondvarStep {
-            word: s.word,
-            next: CondvarNext::Asleep,
-            hold: hold,
-            wake: wake,
-        },
-        LockNext::Ended => CondvarStep {
-            word: s.word,
-            next: CondvarNext::Ended(1),
-            hold: hold,
-            wake: wake,
-        },
-    }
-}
-
-fn load(mutex: u8, word: u32) -> CondvarStep
-    ensures { result ≡ wait_of mutex WaitAt.Load word }
-{
-    // Examine the notification counter _before_ we unlock the mutex.
-    moves(
-        word,
-        CondvarAt::Wait {
-            mutex: mutex,
-            at: WaitAt::Unlock {
-                sequence: word,
-                at: UnlockAt::Swap,
-            },
-        },
-    )
-}
-
-fn wait_on(mutex: u8, sequence: u32, word: u32) -> CondvarStep
-    ensures { result ≡ wait_of mutex (WaitAt.Wait sequence) word }
-{
-    // Wait, but only if there hasn't been any notification since we unlocked the mutex.
-    let same = word == sequence;
-    if same {
-        return sleeps(word);
-    }
-    let at = wait_after_wait(WaitAt::Wait { sequence: sequence });
-    moves(
-        word,
-        CondvarAt::Wait {
-            mutex: mutex,
-            at: at,
-        },
-    )
-}
-
 // One step of `wait`.
-pub fn wait(mutex: u8, at: WaitAt, word: u32) -> CondvarStep
+pub fn wait(mutex: u8, at: WaitAt, word: u32) -> Step<CondvarAt>
     ensures { result ≡ wait_of mutex at word }
 {
+    let to = |at| CondvarAt::Wait { mutex, at };
     match at {
-        WaitAt::Load => load(mutex, word),
-        WaitAt::Unlock { sequence, at: p } => unlock_step(mutex, sequence, mutex::unlock(p, word)),
-        WaitAt::Wait { sequence } => wait_on(mutex, sequence, word),
-        WaitAt::Relock { at: p } => relock_step(mutex, mutex::lock(p, word)),
+        // Examine the notification counter _before_ we unlock the mutex.
+        WaitAt::Load => {
+            let unlock = WaitAt::Unlock {
+                sequence: word,
+                at: UnlockAt::Swap,
+            };
+            Step::moves(word, to(unlock))
+        }
+        WaitAt::Unlock { sequence, at } => mutex::unlock(at, word).then(
+            |at| to(WaitAt::Unlock { sequence, at }),
+            to(WaitAt::Wait { sequence }),
+        ),
+        // Wait, but only if there hasn't been any notification since we unlocked the mutex.
+        WaitAt::Wait { sequence } if word == sequence => Step::sleeps(word),
+        WaitAt::Wait { .. } => Step::moves(word, to(wait_after_wait(at))),
+        WaitAt::Relock { at } => mutex::lock(at, word).map(|at| to(WaitAt::Relock { at })),
     }
-}
-
-fn wake_of(all: bool, word: u32) -> CondvarStep
-    ensures { result ≡ notify_of all NotifyAt.Wake word }
-{
-    if all {
-        return ends(word, Wake::All);
-    }
-    ends(word, Wake::One)
 }
 
 // One step of `notify_one`, or of `notify_all`.
-pub fn notify(all: bool, at: NotifyAt, word: u32) -> CondvarStep
+pub fn notify(all: bool, at: NotifyAt, word: u32) -> Step<CondvarAt>
     ensures { result ≡ notify_of all at word }
 {
+    let at_wake = CondvarAt::Notify {
+        all,
+        at: NotifyAt::Wake,
+    };
     match at {
-        NotifyAt::Add => moves(
-            CounterWord::incremented(word),
-            CondvarAt::Notify {
-                all: all,
-                at: NotifyAt::Wake,
-            },
-        ),
-        NotifyAt::Wake => wake_of(all, word),
+        NotifyAt::Add => Step::moves(CounterWord::incremented(word), at_wake),
+        NotifyAt::Wake if all => Step::ends(word, 1, Hold::Same, Wake::All),
+        NotifyAt::Wake => Step::ends(word, 1, Hold::Same, Wake::One),
     }
 }
 
 // One step of a thread at `at`, over the word that it is about. No exchange of this module is weak, and
 // none of its calls asks whether it woke anybody.
-pub fn decide(at: CondvarAt, fails: bool, word: u32, anyone: bool) -> CondvarStep
+pub fn decide(at: CondvarAt, fails: bool, word: u32, anyone: bool) -> Step<CondvarAt>
     ensures { result ≡ decide_of at fails word anyone }
 {
     match at {
-        CondvarAt::Wait { mutex, at: p } => wait(mutex, p, word),
-        CondvarAt::Notify { all, at: p } => notify(all, p, word),
+        CondvarAt::Wait { mutex, at } => wait(mutex, at, word),
+        CondvarAt::Notify { all, at } => notify(all, at, word),
     }
 }
 
@@ -261,17 +117,13 @@ fn wait_after_wait(at: WaitAt) -> WaitAt
     ensures { result ≡ wait_after_wait at }
 {
     match at {
-        WaitAt::Load => WaitAt::Load,
-        WaitAt::Unlock { sequence, at: p } => WaitAt::Unlock {
-            sequence: sequence,
-            at: p,
-        },
-        WaitAt::Wait { sequence: _ } => WaitAt::Relock {
+        WaitAt::Wait { .. } => WaitAt::Relock {
             at: LockAt::Exchange,
         },
-        WaitAt::Relock { at: p } => WaitAt::Relock {
-            at: mutex::lock_after_wait(p),
+        WaitAt::Relock { at } => WaitAt::Relock {
+            at: mutex::lock_after_wait(at),
         },
+        other => other,
     }
 }
 
@@ -280,11 +132,11 @@ pub fn after_wait(at: CondvarAt) -> CondvarAt
     ensures { result ≡ after_wait at }
 {
     match at {
-        CondvarAt::Wait { mutex, at: p } => CondvarAt::Wait {
-            mutex: mutex,
-            at: wait_after_wait(p),
+        CondvarAt::Wait { mutex, at } => CondvarAt::Wait {
+            mutex,
+            at: wait_after_wait(at),
         },
-        CondvarAt::Notify { all, at: p } => CondvarAt::Notify { all: all, at: p },
+        other => other,
     }
 }
 
@@ -292,10 +144,8 @@ fn wait_operand(at: WaitAt) -> Kind
     ensures { result ≡ wait_operand at }
 {
     match at {
-        WaitAt::Load => Kind::Condvar,
-        WaitAt::Unlock { sequence: _, at: _ } => Kind::Mutex,
-        WaitAt::Wait { sequence: _ } => Kind::Condvar,
-        WaitAt::Relock { at: _ } => Kind::Mutex,
+        WaitAt::Load | WaitAt::Wait { .. } => Kind::Condvar,
+        WaitAt::Unlock { .. } | WaitAt::Relock { .. } => Kind::Mutex,
     }
 }
 
@@ -304,8 +154,8 @@ pub fn operand(at: CondvarAt) -> Kind
     ensures { result ≡ operand_of at }
 {
     match at {
-        CondvarAt::Wait { mutex: _, at: p } => wait_operand(p),
-        CondvarAt::Notify { all: _, at: _ } => Kind::Condvar,
+        CondvarAt::Wait { at, .. } => wait_operand(at),
+        CondvarAt::Notify { .. } => Kind::Condvar,
     }
 }
 
@@ -313,10 +163,8 @@ fn wait_object(own: u8, mutex: u8, at: WaitAt) -> u8
     ensures { result ≡ wait_object own mutex at }
 {
     match at {
-        WaitAt::Load => own,
-        WaitAt::Unlock { sequence: _, at: _ } => mutex,
-        WaitAt::Wait { sequence: _ } => own,
-        WaitAt::Relock { at: _ } => mutex,
+        WaitAt::Load | WaitAt::Wait { .. } => own,
+        WaitAt::Unlock { .. } | WaitAt::Relock { .. } => mutex,
     }
 }
 
@@ -325,8 +173,8 @@ pub fn object(own: u8, at: CondvarAt) -> u8
     ensures { result ≡ object_of own at }
 {
     match at {
-        CondvarAt::Wait { mutex, at: p } => wait_object(own, mutex, p),
-        CondvarAt::Notify { all: _, at: _ } => own,
+        CondvarAt::Wait { mutex, at } => wait_object(own, mutex, at),
+        CondvarAt::Notify { .. } => own,
     }
 }
 
@@ -335,8 +183,8 @@ pub fn mutex_of(at: CondvarAt) -> u8
     ensures { result ≡ mutex_of at }
 {
     match at {
-        CondvarAt::Wait { mutex, at: _ } => mutex,
-        CondvarAt::Notify { all: _, at: _ } => 0,
+        CondvarAt::Wait { mutex, .. } => mutex,
+        CondvarAt::Notify { .. } => 0,
     }
 }
 
@@ -351,10 +199,8 @@ fn wait_passed(at: WaitAt) -> bool
     ensures { result ≡ wait_passed at }
 {
     match at {
-        WaitAt::Load => true,
-        WaitAt::Unlock { sequence: _, at: _ } => true,
-        WaitAt::Wait { sequence: _ } => true,
-        WaitAt::Relock { at: p } => mutex::lock_passed(p),
+        WaitAt::Relock { at } => mutex::lock_passed(at),
+        _ => true,
     }
 }
 
@@ -363,8 +209,8 @@ pub fn passed(at: CondvarAt) -> bool
     ensures { result ≡ passed_of at }
 {
     match at {
-        CondvarAt::Wait { mutex: _, at: p } => wait_passed(p),
-        CondvarAt::Notify { all: _, at: _ } => true,
+        CondvarAt::Wait { at, .. } => wait_passed(at),
+        CondvarAt::Notify { .. } => true,
     }
 }
 
@@ -373,9 +219,8 @@ fn wait_needs(at: WaitAt) -> Needs
 {
     match at {
         WaitAt::Load => Needs::Mutex,
-        WaitAt::Unlock { sequence: _, at: p } => mutex::unlock_needs(p),
-        WaitAt::Wait { sequence: _ } => Needs::Nothing,
-        WaitAt::Relock { at: _ } => Needs::Nothing,
+        WaitAt::Unlock { at, .. } => mutex::unlock_needs(at),
+        WaitAt::Wait { .. } | WaitAt::Relock { .. } => Needs::Nothing,
     }
 }
 
@@ -384,8 +229,8 @@ pub fn needs(at: CondvarAt) -> Needs
     ensures { result ≡ needs_of at }
 {
     match at {
-        CondvarAt::Wait { mutex: _, at: p } => wait_needs(p),
-        CondvarAt::Notify { all: _, at: _ } => Needs::Nothing,
+        CondvarAt::Wait { at, .. } => wait_needs(at),
+        CondvarAt::Notify { .. } => Needs::Nothing,
     }
 }
 
@@ -393,10 +238,9 @@ fn wait_waits(at: WaitAt) -> bool
     ensures { result ≡ wait_waits at }
 {
     match at {
-        WaitAt::Load => false,
-        WaitAt::Unlock { sequence: _, at: _ } => false,
-        WaitAt::Wait { sequence: _ } => true,
-        WaitAt::Relock { at: p } => mutex::lock_waits(p),
+        WaitAt::Wait { .. } => true,
+        WaitAt::Relock { at } => mutex::lock_waits(at),
+        WaitAt::Load | WaitAt::Unlock { .. } => false,
     }
 }
 
@@ -405,8 +249,8 @@ pub fn waits(at: CondvarAt) -> bool
     ensures { result ≡ waits_of at }
 {
     match at {
-        CondvarAt::Wait { mutex: _, at: p } => wait_waits(p),
-        CondvarAt::Notify { all: _, at: _ } => false,
+        CondvarAt::Wait { at, .. } => wait_waits(at),
+        CondvarAt::Notify { .. } => false,
     }
 }
 
@@ -414,20 +258,15 @@ fn wait_may_wake(at: WaitAt) -> bool
     ensures { result ≡ wait_may_wake at }
 {
     match at {
-        WaitAt::Load => false,
-        WaitAt::Unlock { sequence: _, at: p } => mutex::unlock_may_wake(p),
-        WaitAt::Wait { sequence: _ } => false,
-        WaitAt::Relock { at: _ } => false,
+        WaitAt::Unlock { at, .. } => mutex::unlock_may_wake(at),
+        _ => false,
     }
 }
 
 fn notify_may_wake(at: NotifyAt) -> bool
     ensures { result ≡ notify_may_wake at }
 {
-    match at {
-        NotifyAt::Add => false,
-        NotifyAt::Wake => true,
-    }
+    matches!(at, NotifyAt::Wake)
 }
 
 // Whether the next operation may wake a sleeper.
@@ -435,7 +274,7 @@ pub fn may_wake(at: CondvarAt) -> bool
     ensures { result ≡ may_wake at }
 {
     match at {
-        CondvarAt::Wait { mutex: _, at: p } => wait_may_wake(p),
-        CondvarAt::Notify { all: _, at: p } => notify_may_wake(p),
+        CondvarAt::Wait { at, .. } => wait_may_wake(at),
+        CondvarAt::Notify { at, .. } => notify_may_wake(at),
     }
 }

@@ -7,6 +7,8 @@ use lib.Dec.{eqb}
 use borrow.Author.Tests.{eqb-true}
 use Rattle.words.specs.Atomic.{exchanges}
 use Rattle.words.specs.Once.{INCOMPLETE, POISONED, RUNNING, QUEUED, state_of, is_queued}
+use Rattle.words.specs.declared.Next.TheVariants as Nx
+use Rattle.words.specs.Steps as St
 use Rattle.once.specs.declared.Ending.TheVariants as E
 use Rattle.once.specs.declared.CallAt.{CallAt}
 use Rattle.once.specs.declared.CallAt.TheVariants as Ca
@@ -14,11 +16,10 @@ use Rattle.once.specs.declared.WaitAt.{WaitAt}
 use Rattle.once.specs.declared.WaitAt.TheVariants as Wt
 use Rattle.once.specs.declared.OnceAt.{OnceAt}
 use Rattle.once.specs.declared.OnceAt.TheVariants as O
-use Rattle.once.specs.declared.OnceNext.TheVariants as ON
 use Rattle.once.specs.Once as On
 use Rattle.calls.specs.declared.At.{At}
 use Rattle.calls.specs.declared.At.TheVariants as A
-use Rattle.calls.specs.Plans.{once_plan, moved, entered, decide_of}
+use Rattle.calls.specs.Plans.{once_plan, moved, entered, decide_of, plan_of}
 use Rattle.calls.specs.Positions.{entry_of, in_closure, is_idle}
 use Rattle.acts.specs.Refusals.{step_refusal, close_refusal}
 use Rattle.kept.specs.Laws.{kind_of, largest}
@@ -52,8 +53,8 @@ queued-each ignores flag Q seen e x₁ x₃ x₂ =
 
 module _ (P : At → Type 0) (led : (at : At) → Led P at → P at) (o : ℕ) where
   step :
-      (p q : OnceAt) (word : ℕ) → On.in_closure p ≡ false → word ≤ 7 → (On.decide_of p false word false).next ≡ ON.Moved q → P (A.Once o p) → P (A.Once o q)
-  unfolding decide_of once_plan moved step_refusal is_idle in_closure kind_of On.operand_of largest
+      (p q : OnceAt) (word : ℕ) → On.in_closure p ≡ false → word ≤ 7 → (On.decide_of p false word false).next ≡ Nx.Moved q → P (A.Once o p) → P (A.Once o q)
+  unfolding decide_of plan_of moved step_refusal is_idle in_closure kind_of On.operand_of largest
   step p q word r h e x =
       rw e at (led (decide_of (A.Once o p) false word false).next.at (stepped (A.Once o p) 0 word false x (rw r) (rw r h)))
 
@@ -68,16 +69,16 @@ module _ (P : At → Type 0) (led : (at : At) → Led P at → P at) (o : ℕ) w
   wait-load true = begins P led 16 o 0 (omega arith)
 
   -- the load leads to each of the exchanges, and to the wait where QUEUED is set
-  call-top : (ignores : Bool) (q : CallAt) (word : ℕ) → word ≤ 7 → (On.call_top ignores word).next ≡ ON.Moved (O.Call ignores q) → P (A.Once o (O.Call ignores q))
+  call-top : (ignores : Bool) (q : CallAt) (word : ℕ) → word ≤ 7 → (On.call_top ignores word).next ≡ Nx.Moved (O.Call ignores q) → P (A.Once o (O.Call ignores q))
   unfolding On.decide_of On.call_of On.in_closure On.call_in_closure
   call-top ignores q word h e = step (O.Call ignores Ca.Load) (O.Call ignores q) word refl h e (call-load ignores)
 
-  wait-top : (ignores : Bool) (q : WaitAt) (word : ℕ) → word ≤ 7 → (On.wait_top ignores word).next ≡ ON.Moved (O.Wait ignores q) → P (A.Once o (O.Wait ignores q))
+  wait-top : (ignores : Bool) (q : WaitAt) (word : ℕ) → word ≤ 7 → (On.wait_top ignores word).next ≡ Nx.Moved (O.Wait ignores q) → P (A.Once o (O.Wait ignores q))
   unfolding On.decide_of On.wait_of On.in_closure
   wait-top ignores q word h e = step (O.Wait ignores Wt.Load) (O.Wait ignores q) word refl h e (wait-load ignores)
 
   closure : (ignores : Bool) → P (A.Once o (O.Call ignores Ca.Closure))
-  unfolding On.decide_of On.call_of On.call_top On.moves On.enters On.in_closure On.call_in_closure exchanges state_of is_queued decide_of once_plan entered step_refusal is_idle in_closure kind_of On.operand_of largest
+  unfolding On.decide_of On.call_of On.call_top On.in_closure On.call_in_closure exchanges state_of is_queued decide_of plan_of entered step_refusal is_idle in_closure kind_of On.operand_of largest
   closure ignores =
       led (A.Once o (O.Call ignores Ca.Closure))
       (stepped (A.Once o (O.Call ignores (Ca.ExchangeRunning 3))) 0 3 false (call-top ignores (Ca.ExchangeRunning 3) 3 (omega arith) refl) refl (omega arith))
@@ -87,7 +88,7 @@ module _ (P : At → Type 0) (led : (at : At) → Led P at → P at) (o : ℕ) w
   swap ignores ending = led _ (closed ending (A.Once o (O.Call ignores Ca.Closure)) (closure ignores) refl)
 
   call-led : (ignores : Bool) (p : CallAt) → On.call_passed ignores p ≡ true → P (A.Once o (O.Call ignores p))
-  unfolding On.call_passed On.call_top On.queues On.moves state_of is_queued On.decide_of On.call_of On.is_panicked On.in_closure On.call_in_closure
+  unfolding On.call_passed On.call_top On.queues state_of is_queued On.decide_of On.call_of On.is_panicked On.in_closure On.call_in_closure
   call-led ignores Ca.Load e = call-load ignores
   call-led ignores (Ca.ExchangeRunning seen) e =
       running-each ignores (λ (seen : ℕ). P (A.Once o (O.Call ignores (Ca.ExchangeRunning seen)))) seen e
@@ -107,7 +108,7 @@ module _ (P : At → Type 0) (led : (at : At) → Led P at → P at) (o : ℕ) w
       named (λ (seen : ℕ). P (A.Once o (O.Call ignores (Ca.Wait seen)))) 5 seen e (call-top ignores (Ca.Wait 5) 5 (omega arith) refl)
 
   wait-led : (ignores : Bool) (p : WaitAt) → On.wait_passed ignores p ≡ true → P (A.Once o (O.Wait ignores p))
-  unfolding On.wait_passed On.wait_top On.queues On.moves state_of is_queued
+  unfolding On.wait_passed On.wait_top On.queues state_of is_queued
   wait-led ignores Wt.Load e = wait-load ignores
   wait-led ignores (Wt.ExchangeQueued seen) e =
       queued-each ignores 0 (λ (seen : ℕ). P (A.Once o (O.Wait ignores (Wt.ExchangeQueued seen)))) seen e

@@ -10,13 +10,15 @@ use Rattle.words.specs.Atomic.{exchanges}
 use Rattle.words.specs.Mutex.{is_contended}
 use Rattle.words.specs.Once.{RUNNING, QUEUED}
 use Rattle.words.specs.RwLock.{is_unlocked, is_read_lockable, has_readers_waiting, has_writers_waiting, has_reached_max_readers}
+use Rattle.words.specs.declared.Next.{Next}
+use Rattle.words.specs.declared.Next.TheVariants as Nx
+use Rattle.words.specs.declared.Step.{Step}
+use Rattle.words.specs.Steps.{map_next}
+use Rattle.words.specs.Steps as St
+use Rattle.condvar.specs.declared.CondvarAt.{CondvarAt}
 use Rattle.mutex.specs.declared.LockAt.{LockAt}
-use Rattle.mutex.specs.declared.LockNext.{LockNext}
-use Rattle.mutex.specs.declared.LockNext.TheVariants as LN
-use Rattle.mutex.specs.declared.LockStep.{LockStep}
 use Rattle.mutex.specs.declared.UnlockAt.{UnlockAt}
 use Rattle.mutex.specs.declared.UnlockAt.TheVariants as U
-use Rattle.mutex.specs.declared.UnlockStep.{UnlockStep}
 use Rattle.mutex.specs.declared.MutexAt.{MutexAt}
 use Rattle.mutex.specs.Mutex as Mx
 use Rattle.rwlock.specs.declared.ReadAt.{ReadAt}
@@ -29,14 +31,12 @@ use Rattle.rwlock.specs.declared.WakeAt.{WakeAt}
 use Rattle.rwlock.specs.declared.DowngradeAt.{DowngradeAt}
 use Rattle.rwlock.specs.declared.RwLockAt.{RwLockAt}
 use Rattle.rwlock.specs.declared.RwLockAt.TheVariants as X
-use Rattle.rwlock.specs.declared.RwLockStep.{RwLockStep}
 use Rattle.rwlock.specs.RwLock as Rw
 use Rattle.rwlock.specs.Positions as RwP
 use Rattle.condvar.specs.declared.WaitAt.{WaitAt}
 use Rattle.condvar.specs.declared.WaitAt.TheVariants as Cw
 use Rattle.condvar.specs.declared.NotifyAt.{NotifyAt}
 use Rattle.condvar.specs.declared.CondvarAt.TheVariants as C
-use Rattle.condvar.specs.declared.CondvarStep.{CondvarStep}
 use Rattle.condvar.specs.Condvar as Cv
 use Rattle.once.specs.declared.CallAt.{CallAt}
 use Rattle.once.specs.declared.CallAt.TheVariants as Oc
@@ -49,7 +49,7 @@ use Rattle.once.specs.Once as On
 use Rattle.thread_parking.specs.declared.ParkerAt.{ParkerAt}
 use Rattle.calls.specs.declared.At.{At}
 use Rattle.calls.specs.declared.At.TheVariants as A
-use Rattle.calls.specs.Plans.{rwlock_plan, condvar_next, condvar_plan, moved, slept, done, panicked, decide_of}
+use Rattle.calls.specs.Plans.{rwlock_plan, condvar_plan, moved, slept, done, panicked, entered, decide_of, plan_next, plan_of}
 use Rattle.calls.specs.Positions.{after_wait, passed_of}
 use Rattle.step.specs.Acts.{closed_at}
 use Rattle.kept.specs.Laws.{Goes, ended, staying, locking, unlocking, read-unlocking, write-unlocking, waking, downgrading, notifying, calling, awaiting, parking, unparking}
@@ -148,18 +148,18 @@ once-wide (awaiting {b = b} {q = q}) e = omega (arith, once-small (O.Wait b q) e
 
 -- an RwLock's states and sequences: what is seen is the word, or was carried before
 module _ (l word : ℕ) (h : word < 2 ^ 32) where
-  Wide : RwLockAt → RwLockStep → Type 0
+  Wide : RwLockAt → Step RwLockAt → Type 0
   Wide p s = carries (rwlock_plan l p s).next.at < 2 ^ 32
 
   read-top : (p : RwLockAt) (has-slept : Bool) → Wide p (Rw.read_top has-slept word)
-  unfolding Wide rwlock_plan moved panicked Rw.read_top Rw.moves_with Rw.panics carries rwlock_carries read_carries
+  unfolding Wide plan_of moved panicked Rw.read_top carries rwlock_carries read_carries
   read-top p has-slept =
       either (Wide p) (Rw.may_read has-slept word) _ _ h
       (either (Wide p) (has_reached_max_readers word) _ _ (omega arith)
       (either (Wide p) (has_readers_waiting word) _ _ h h))
 
   read_wide : (p : ReadAt) (fails : Bool) → read_carries p < 2 ^ 32 → Wide (X.Read p) (Rw.read_of p fails word)
-  unfolding Wide rwlock_plan moved slept done Rw.read_of Rw.moves_with Rw.sleeps Rw.ends Rw.read_after_wait carries rwlock_carries read_carries
+  unfolding Wide plan_of moved slept done Rw.read_of Rw.read_after_wait carries rwlock_carries read_carries
   read_wide R.Load fails s = either (Wide (X.Read R.Load)) (is_read_lockable word) _ _ h (omega arith)
   read_wide (R.Exchange seen) fails s = either (Wide (X.Read (R.Exchange seen))) (exchanges word seen fails) _ _ (omega arith) (omega arith)
   read_wide (R.Spin has-slept left) fails s =
@@ -173,25 +173,25 @@ module _ (l word : ℕ) (h : word < 2 ^ 32) where
   read_wide (R.Wait seen) fails s = either (Wide (X.Read (R.Wait seen))) (eqb word seen) _ _ s (omega arith)
 
   try-read-wide : (p : TryAt) (fails : Bool) → Wide (X.TryRead p) (Rw.try_read_of p fails word)
-  unfolding Wide rwlock_plan moved done Rw.try_read_of Rw.try_read_top Rw.moves_with Rw.ends carries rwlock_carries try_carries
+  unfolding Wide plan_of moved done Rw.try_read_of Rw.try_read_top carries rwlock_carries try_carries
   try-read-wide T.Load fails = either (Wide (X.TryRead T.Load)) (is_read_lockable word) _ _ h (omega arith)
   try-read-wide (T.Exchange seen) fails =
       either (Wide (X.TryRead (T.Exchange seen))) (exchanges word seen fails) _ _ (omega arith)
       (either (Wide (X.TryRead (T.Exchange seen))) (is_read_lockable word) _ _ h (omega arith))
 
   try-write-wide : (p : TryAt) (fails : Bool) → Wide (X.TryWrite p) (Rw.try_write_of p fails word)
-  unfolding Wide rwlock_plan moved done Rw.try_write_of Rw.try_write_top Rw.moves_with Rw.ends carries rwlock_carries try_carries
+  unfolding Wide plan_of moved done Rw.try_write_of Rw.try_write_top carries rwlock_carries try_carries
   try-write-wide T.Load fails = either (Wide (X.TryWrite T.Load)) (is_unlocked word) _ _ h (omega arith)
   try-write-wide (T.Exchange seen) fails =
       either (Wide (X.TryWrite (T.Exchange seen))) (exchanges word seen fails) _ _ (omega arith)
       (either (Wide (X.TryWrite (T.Exchange seen))) (is_unlocked word) _ _ h (omega arith))
 
   write_top : (p : RwLockAt) (others : Bool) → Wide p (Rw.write_top others word)
-  unfolding Wide rwlock_plan moved Rw.write_top Rw.moves_with carries rwlock_carries write_carries
+  unfolding Wide plan_of moved Rw.write_top carries rwlock_carries write_carries
   write_top p others = either (Wide p) (is_unlocked word) _ _ h (either (Wide p) (has_writers_waiting word) _ _ (omega arith) h)
 
   write-wide : (p : WriteAt) (fails : Bool) → write_carries p < 2 ^ 32 → Wide (X.Write p) (Rw.write_of p fails word)
-  unfolding Wide rwlock_plan moved slept done Rw.write_of Rw.moves_with Rw.sleeps Rw.ends Rw.write_after_wait carries rwlock_carries write_carries
+  unfolding Wide plan_of moved slept done Rw.write_of Rw.write_after_wait carries rwlock_carries write_carries
   write-wide Wr.Exchange fails s = either (Wide (X.Write Wr.Exchange)) (exchanges word 0 fails) _ _ (omega arith) (omega arith)
   write-wide (Wr.Spin others left) fails s =
       either (Wide (X.Write (Wr.Spin others left))) (Rw.stops_write word || eqb left 0) _ _ (write_top (X.Write (Wr.Spin others left)) others) (omega arith)
@@ -221,27 +221,29 @@ module _ (c m word : ℕ) where
   unlock-wide :
       (sequence : ℕ) (p : UnlockAt) → sequence < 2 ^ 32 →
       carries (condvar_plan c (C.Wait m (Cw.Unlock sequence p)) m (Cv.unlock_step m sequence (Mx.unlock_of p word))).next.at < 2 ^ 32
-  unfolding condvar_plan moved Cv.unlock_step Mx.unlock_of carries condvar_carries wait_carries
+  unfolding plan_of moved Cv.unlock_step Mx.unlock_of carries condvar_carries wait_carries
   unlock-wide sequence U.Swap s =
-      either (λ (u : UnlockStep). carries (condvar_plan c (C.Wait m (Cw.Unlock sequence U.Swap)) m (Cv.unlock_step m sequence u)).next.at < 2 ^ 32)
+      either (λ (u : Step UnlockAt). carries (condvar_plan c (C.Wait m (Cw.Unlock sequence U.Swap)) m (Cv.unlock_step m sequence u)).next.at < 2 ^ 32)
       (is_contended word) _ _ s s
   unlock-wide sequence U.Wake s = s
 
-  relock-wide : (p : LockAt) (s : LockStep) → carries (condvar_plan c (C.Wait m (Cw.Relock p)) m (Cv.relock_step m s)).next.at < 2 ^ 32
-  unfolding condvar_plan moved slept done Cv.relock_step carries condvar_carries wait_carries
+  relock-wide : (p : LockAt) (s : Step LockAt) → carries (condvar_plan c (C.Wait m (Cw.Relock p)) m (Cv.relock_step m s)).next.at < 2 ^ 32
+  unfolding plan_of moved slept done panicked entered Cv.relock_step carries condvar_carries wait_carries
   relock-wide p s = by s.next
     where
-      by : (n : LockNext) → carries (condvar_next c (C.Wait m (Cw.Relock p)) m s.word s.hold s.wake (Cv.relock_next m n)).next.at < 2 ^ 32
-      by (LN.Moved q) = light (A.Condvar c (C.Wait m (Cw.Relock q))) refl
-      by LN.Asleep = light (A.Condvar c (C.Wait m (Cw.Relock p))) refl
-      by LN.Ended = light A.Idle refl
+      by : (n : Next LockAt) → carries (plan_next (A.Condvar c (C.Wait m (Cw.Relock p))) m s.word s.hold s.wake (map_next (A.Condvar c) (map_next (λ (q : LockAt). C.Wait m (Cw.Relock q)) n))).next.at < 2 ^ 32
+      by (Nx.Moved q) = light (A.Condvar c (C.Wait m (Cw.Relock q))) refl
+      by Nx.Asleep = light (A.Condvar c (C.Wait m (Cw.Relock p))) refl
+      by (Nx.Ended value) = light A.Idle refl
+      by (Nx.Panics panic) = light A.Idle refl
+      by (Nx.Closure q) = light (A.Condvar c (C.Wait m (Cw.Relock q))) refl
 
   wait-wide : (p : WaitAt) (fails anyone : Bool) → word < 2 ^ 32 → wait_carries p < 2 ^ 32 → carries (decide_of (A.Condvar c (C.Wait m p)) fails word anyone).next.at < 2 ^ 32
-  unfolding decide_of condvar_plan moved slept Cv.decide_of Cv.wait_of Cv.moves Cv.sleeps Cv.wait_after_wait Cv.object_of Cv.wait_object carries condvar_carries wait_carries
+  unfolding decide_of plan_of moved slept Cv.decide_of Cv.wait_of Cv.wait_after_wait Cv.object_of Cv.wait_object carries condvar_carries wait_carries
   wait-wide Cw.Load fails anyone h s = h
   wait-wide (Cw.Unlock sequence p) fails anyone h s = unlock-wide sequence p s
   wait-wide (Cw.Wait sequence) fails anyone h s =
-      either (λ (u : CondvarStep). carries (condvar_plan c (C.Wait m (Cw.Wait sequence)) c u).next.at < 2 ^ 32) (eqb word sequence) _ _ s (omega arith)
+      either (λ (u : Step CondvarAt). carries (condvar_plan c (C.Wait m (Cw.Wait sequence)) c u).next.at < 2 ^ 32) (eqb word sequence) _ _ s (omega arith)
   wait-wide (Cw.Relock p) fails anyone h s = relock-wide p (Mx.lock_of p word)
 
 -- a step, over all modules

@@ -9,20 +9,15 @@ use Rattle.words.specs.Atomic.{exchanges}
 use Rattle.words.specs.Once.{INCOMPLETE, POISONED, COMPLETE, state_of, is_queued}
 use Rattle.words.specs.Parker.{PARKED}
 use Rattle.words.specs.declared.Wake.{Wake}
+use Rattle.words.specs.declared.Next.{Next}
+use Rattle.words.specs.declared.Next.TheVariants as Nx
+use Rattle.words.specs.declared.Step.{Step}
+use Rattle.words.specs.Steps.{map_next, map_step}
 use Rattle.mutex.specs.declared.MutexAt.{MutexAt}
-use Rattle.mutex.specs.declared.MutexStep.{MutexStep}
-use Rattle.mutex.specs.declared.MutexNext.{MutexNext}
-use Rattle.mutex.specs.declared.MutexNext.TheVariants as MxN
 use Rattle.mutex.specs.Mutex as Mx
 use Rattle.rwlock.specs.declared.RwLockAt.{RwLockAt}
-use Rattle.rwlock.specs.declared.RwLockStep.{RwLockStep}
-use Rattle.rwlock.specs.declared.RwLockNext.{RwLockNext}
-use Rattle.rwlock.specs.declared.RwLockNext.TheVariants as RwN
 use Rattle.rwlock.specs.RwLock as Rw
 use Rattle.condvar.specs.declared.CondvarAt.{CondvarAt}
-use Rattle.condvar.specs.declared.CondvarStep.{CondvarStep}
-use Rattle.condvar.specs.declared.CondvarNext.{CondvarNext}
-use Rattle.condvar.specs.declared.CondvarNext.TheVariants as CvN
 use Rattle.condvar.specs.Condvar as Cv
 use Rattle.once.specs.declared.CallAt.{CallAt}
 use Rattle.once.specs.declared.CallAt.TheVariants as C
@@ -30,19 +25,13 @@ use Rattle.once.specs.declared.WaitAt.{WaitAt}
 use Rattle.once.specs.declared.WaitAt.TheVariants as Wt
 use Rattle.once.specs.declared.OnceAt.{OnceAt}
 use Rattle.once.specs.declared.OnceAt.TheVariants as O
-use Rattle.once.specs.declared.OnceStep.{OnceStep}
-use Rattle.once.specs.declared.OnceNext.{OnceNext}
-use Rattle.once.specs.declared.OnceNext.TheVariants as OnN
 use Rattle.once.specs.Once as On
 use Rattle.thread_parking.specs.declared.ParkerAt.{ParkerAt}
-use Rattle.thread_parking.specs.declared.ParkerStep.{ParkerStep}
-use Rattle.thread_parking.specs.declared.ParkerNext.{ParkerNext}
-use Rattle.thread_parking.specs.declared.ParkerNext.TheVariants as PkN
 use Rattle.thread_parking.specs.ThreadParking as Pk
 use Rattle.calls.specs.declared.At.{At}
 use Rattle.calls.specs.declared.At.TheVariants as A
 use Rattle.calls.specs.declared.Plan.{Plan}
-use Rattle.calls.specs.Plans.{moved, slept, done, panicked, entered, mutex_plan, rwlock_plan, condvar_plan, once_plan, parker_plan, mutex_next, rwlock_next, condvar_next, once_next, parker_next, decide_of}
+use Rattle.calls.specs.Plans.{awake, moved, slept, done, panicked, entered, decide_of, plan_next, plan_of}
 use Rattle.calls.specs.Positions.{in_closure, is_idle}
 use Rattle.acts.specs.Refusals.{step_refusal}
 use Rattle.calls.specs.Events.{goes_on, is_step}
@@ -53,57 +42,48 @@ pub record Leads (p : Plan) : Type 0 where
   pub told : is_step p.event ≡ true
   pub on : goes_on p.event ≡ true → step_refusal p.next 0 ≡ 0
 
-mutex-leads : (m : ℕ) (p : MutexAt) (s : MutexStep) → Leads (mutex_plan m p s)
-unfolding mutex_plan moved slept done step_refusal is_idle in_closure
-mutex-leads m p s = by s.next
-  where
-    by : (n : MutexNext) → Leads (mutex_next m p s.word s.hold s.wake n)
-    by (MxN.Moved q) = record { told = refl; on = λ e. refl }
-    by MxN.Asleep = record { told = refl; on = λ e. no_way e }
-    by (MxN.Ended v) = record { told = refl; on = λ e. no_way e }
+-- why the thread that a step leads on may not be stepped then; 0 where it may
+refusal_next : Next At → ℕ
+refusal_next (Nx.Moved q) = step_refusal (awake q) 0
+refusal_next Nx.Asleep = 0
+refusal_next (Nx.Ended v) = 0
+refusal_next (Nx.Panics k) = 0
+refusal_next (Nx.Closure q) = 0
 
-rwlock-leads : (l : ℕ) (p : RwLockAt) (s : RwLockStep) → Leads (rwlock_plan l p s)
-unfolding rwlock_plan moved slept done panicked step_refusal is_idle in_closure
-rwlock-leads l p s = by s.next
+plan-leads : (at : At) (object : ℕ) (s : Step At) → refusal_next s.next ≡ 0 → Leads (plan_of at object s)
+unfolding refusal_next plan_of moved slept done panicked entered
+plan-leads at object s h = by s.next h
   where
-    by : (n : RwLockNext) → Leads (rwlock_next l p s.word s.hold s.wake n)
-    by (RwN.Moved q) = record { told = refl; on = λ e. refl }
-    by RwN.Asleep = record { told = refl; on = λ e. no_way e }
-    by (RwN.Ended v) = record { told = refl; on = λ e. no_way e }
-    by (RwN.Panic k) = record { told = refl; on = λ e. no_way e }
+    by : (n : Next At) → refusal_next n ≡ 0 → Leads (plan_next at object s.word s.hold s.wake n)
+    by (Nx.Moved q) h = record { told = refl; on = λ e. h }
+    by Nx.Asleep h = record { told = refl; on = λ e. no_way e }
+    by (Nx.Ended v) h = record { told = refl; on = λ e. no_way e }
+    by (Nx.Panics k) h = record { told = refl; on = λ e. no_way e }
+    by (Nx.Closure q) h = record { told = refl; on = λ e. no_way e }
 
-condvar-leads : (c : ℕ) (p : CondvarAt) (o : ℕ) (s : CondvarStep) → Leads (condvar_plan c p o s)
-unfolding condvar_plan moved slept done step_refusal is_idle in_closure
-condvar-leads c p o s = by s.next
-  where
-    by : (n : CondvarNext) → Leads (condvar_next c p o s.word s.hold s.wake n)
-    by (CvN.Moved q) = record { told = refl; on = λ e. refl }
-    by CvN.Asleep = record { told = refl; on = λ e. no_way e }
-    by (CvN.Ended v) = record { told = refl; on = λ e. no_way e }
-
-parker-leads : (p : ParkerAt) (s : ParkerStep) → Leads (parker_plan p s)
-unfolding parker_plan moved slept done step_refusal is_idle in_closure
-parker-leads p s = by s.next
-  where
-    by : (n : ParkerNext) → Leads (parker_next p s.word s.wake n)
-    by (PkN.Moved q) = record { told = refl; on = λ e. refl }
-    by PkN.Asleep = record { told = refl; on = λ e. no_way e }
-    by (PkN.Ended v) = record { told = refl; on = λ e. no_way e }
+-- .. of a module all of whose positions have an operation
+ready : {X : Type 0} (f : X → At) → ((x : X) → step_refusal (awake (f x)) 0 ≡ 0) → (n : Next X) → refusal_next (map_next f n) ≡ 0
+unfolding refusal_next
+ready f h (Nx.Moved q) = h q
+ready f h Nx.Asleep = refl
+ready f h (Nx.Ended v) = refl
+ready f h (Nx.Panics k) = refl
+ready f h (Nx.Closure q) = refl
 
 -- a Once's step enters a closure by the event of that name alone
-outside : OnceNext → Bool
-outside (OnN.Moved q) = not (On.in_closure q)
-outside OnN.Asleep = true
-outside (OnN.Ended v) = true
-outside (OnN.Panic k) = true
-outside (OnN.Closure q) = true
+outside : Next OnceAt → Bool
+outside (Nx.Moved q) = not (On.in_closure q)
+outside Nx.Asleep = true
+outside (Nx.Ended v) = true
+outside (Nx.Panics k) = true
+outside (Nx.Closure q) = true
 
-Outside : OnceStep → Type 0
+Outside : Step OnceAt → Type 0
 Outside s = outside s.next ≡ true
 
 module _ (i : Bool) (word : ℕ) where
   call-top-outside : Outside (On.call_top i word)
-  unfolding Outside outside On.call_top On.queues On.moves On.ends On.panics On.in_closure On.call_in_closure
+  unfolding Outside outside On.call_top On.queues On.in_closure On.call_in_closure
   call-top-outside =
       either Outside (eqb (state_of word) COMPLETE) _ _ refl
       (either Outside (eqb (state_of word) POISONED && not i) _ _ refl
@@ -111,17 +91,17 @@ module _ (i : Bool) (word : ℕ) where
       (either Outside (is_queued word) _ _ refl refl)))
 
   wait-top-outside : Outside (On.wait_top i word)
-  unfolding Outside outside On.wait_top On.queues On.moves On.ends On.panics On.in_closure
+  unfolding Outside outside On.wait_top On.queues On.in_closure
   wait-top-outside =
       either Outside (eqb (state_of word) COMPLETE) _ _ refl
       (either Outside (eqb (state_of word) POISONED && not i) _ _ refl (either Outside (is_queued word) _ _ refl refl))
 
   finishes-outside : (panicking : Bool) (new : ℕ) (wake : Wake) → Outside (On.finishes panicking new wake)
-  unfolding Outside outside On.finishes On.ends On.panics
+  unfolding Outside outside On.finishes
   finishes-outside panicking new wake = either Outside panicking _ _ refl refl
 
   call-outside : (p : CallAt) (f : Bool) → Outside (On.call_of i p f word)
-  unfolding Outside outside On.call_of On.moves On.sleeps On.enters On.call_after_wait On.in_closure On.call_in_closure
+  unfolding Outside outside On.call_of On.call_after_wait On.in_closure On.call_in_closure
   call-outside C.Load f = call-top-outside
   call-outside (C.ExchangeRunning seen) f = either Outside (exchanges word seen f) _ _ refl call-top-outside
   call-outside C.Closure f = refl
@@ -132,38 +112,45 @@ module _ (i : Bool) (word : ℕ) where
   call-outside (C.Wait seen) f = either Outside (eqb word seen) _ _ refl refl
 
   wait-outside : (p : WaitAt) (f : Bool) → Outside (On.wait_of i p f word)
-  unfolding Outside outside On.wait_of On.moves On.sleeps On.wait_after_wait On.in_closure
+  unfolding Outside outside On.wait_of On.wait_after_wait On.in_closure
   wait-outside Wt.Load f = wait-top-outside
   wait-outside (Wt.ExchangeQueued seen) f = either Outside (exchanges word (state_of seen) f) _ _ refl wait-top-outside
   wait-outside (Wt.Wait seen) f = either Outside (eqb word seen) _ _ refl refl
 
 once-outside : (p : OnceAt) (f : Bool) (word : ℕ) (a : Bool) → Outside (On.decide_of p f word a)
-unfolding Outside outside On.decide_of On.is_completed_of On.ends
+unfolding Outside outside On.decide_of On.is_completed_of
 once-outside (O.Call i p) f word a = call-outside i word p f
 once-outside (O.Wait i p) f word a = wait-outside i word p f
 once-outside O.IsCompleted f word a = refl
 
-once-leads : (o : ℕ) (p : OnceAt) (s : OnceStep) → Outside s → Leads (once_plan o p s)
-unfolding Outside outside once_plan moved slept done panicked entered step_refusal is_idle in_closure
-once-leads o p s h = by s.next h
+once-ready : (o : ℕ) (n : Next OnceAt) → outside n ≡ true → refusal_next (map_next (A.Once o) n) ≡ 0
+unfolding outside refusal_next step_refusal is_idle in_closure
+once-ready o (Nx.Moved q) h = clear (On.in_closure q) h
   where
-    by : (n : OnceNext) → outside n ≡ true → Leads (once_next o p s.word s.wake n)
-    by (OnN.Moved q) h = record { told = refl; on = λ e. clear (On.in_closure q) h }
-      where
-        clear : (c : Bool) → not c ≡ true → ◌≡◌ {A = ℕ} (cond c 10 0) 0
-        clear true z = no_way z
-        clear false z = refl
-    by OnN.Asleep h = record { told = refl; on = λ e. no_way e }
-    by (OnN.Ended v) h = record { told = refl; on = λ e. no_way e }
-    by (OnN.Panic k) h = record { told = refl; on = λ e. no_way e }
-    by (OnN.Closure q) h = record { told = refl; on = λ e. no_way e }
+    clear : (c : Bool) → not c ≡ true → ◌≡◌ {A = ℕ} (cond c 10 0) 0
+    clear true z = no_way z
+    clear false z = refl
+once-ready o Nx.Asleep h = refl
+once-ready o (Nx.Ended v) h = refl
+once-ready o (Nx.Panics k) h = refl
+once-ready o (Nx.Closure q) h = refl
 
 -- of every thread that is in a call
 pub leads : (at : At) (f : Bool) (word : ℕ) (a : Bool) → is_idle at ≡ false → Leads (decide_of at f word a)
-unfolding decide_of is_idle
+unfolding decide_of is_idle step_refusal in_closure Outside
 leads A.Idle f word a n = no_way (sym n)
-leads (A.Mutex m p) f word a n = mutex-leads m p (Mx.decide_of p f word a)
-leads (A.RwLock l p) f word a n = rwlock-leads l p (Rw.decide_of p f word a)
-leads (A.Condvar c p) f word a n = condvar-leads c p (Cv.object_of c p) (Cv.decide_of p f word a)
-leads (A.Once o p) f word a n = once-leads o p (On.decide_of p f word a) (once-outside p f word a)
-leads (A.Parker p) f word a n = parker-leads p (Pk.decide_of PARKED p f word a)
+leads (A.Mutex m p) f word a n =
+    let s = Mx.decide_of p f word a in
+    plan-leads (A.Mutex m p) m (map_step (A.Mutex m) s) (ready (A.Mutex m) (λ q. refl) s.next)
+leads (A.RwLock l p) f word a n =
+    let s = Rw.decide_of p f word a in
+    plan-leads (A.RwLock l p) l (map_step (A.RwLock l) s) (ready (A.RwLock l) (λ q. refl) s.next)
+leads (A.Condvar c p) f word a n =
+    let s = Cv.decide_of p f word a in
+    plan-leads (A.Condvar c p) (Cv.object_of c p) (map_step (A.Condvar c) s) (ready (A.Condvar c) (λ q. refl) s.next)
+leads (A.Once o p) f word a n =
+    let s = On.decide_of p f word a in
+    plan-leads (A.Once o p) 0 (map_step (A.Once o) s) (once-ready o s.next (once-outside p f word a))
+leads (A.Parker p) f word a n =
+    let s = Pk.decide_of PARKED p f word a in
+    plan-leads (A.Parker p) 0 (map_step A.Parker s) (ready A.Parker (λ q. refl) s.next)

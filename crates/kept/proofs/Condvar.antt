@@ -11,12 +11,12 @@ use Rattle.words.specs.Counter.{incremented}
 use Rattle.words.specs.Mutex.{UNLOCKED, CONTENDED}
 use Rattle.words.specs.declared.Hold.TheVariants as H
 use Rattle.words.specs.declared.Wake.TheVariants as W
+use Rattle.words.specs.declared.Step.{Step}
+use Rattle.words.specs.Steps as St
 use Rattle.mutex.specs.declared.LockAt.{LockAt}
 use Rattle.mutex.specs.declared.LockAt.TheVariants as L
 use Rattle.mutex.specs.declared.UnlockAt.{UnlockAt}
 use Rattle.mutex.specs.declared.UnlockAt.TheVariants as U
-use Rattle.mutex.specs.declared.LockStep.{LockStep}
-use Rattle.mutex.specs.declared.UnlockStep.{UnlockStep}
 use Rattle.mutex.specs.Mutex as Mx
 use Rattle.condvar.specs.declared.WaitAt.{WaitAt}
 use Rattle.condvar.specs.declared.WaitAt.TheVariants as Wt
@@ -24,10 +24,9 @@ use Rattle.condvar.specs.declared.NotifyAt.{NotifyAt}
 use Rattle.condvar.specs.declared.NotifyAt.TheVariants as Nf
 use Rattle.condvar.specs.declared.CondvarAt.{CondvarAt}
 use Rattle.condvar.specs.declared.CondvarAt.TheVariants as C
-use Rattle.condvar.specs.declared.CondvarStep.{CondvarStep}
 use Rattle.condvar.specs.Condvar as Cv
 use Rattle.calls.specs.declared.At.TheVariants as A
-use Rattle.calls.specs.Plans.{condvar_plan, decide_of}
+use Rattle.calls.specs.Plans.{condvar_plan, decide_of, plan_of}
 use Rattle.calls.specs.Positions.{passed_of, waits_of, need_of}
 use Rattle.kept.specs.Laws.{Kept, Did, mutex-same, mutex-taken, mutex-freed, largest, kind_of, object_of, asks, held_kind, waiting, notifying}
 use Rattle.kept.proofs.Laws.{stores_same, kept-moved, kept_on, kept-done, kept-end, kept-slept}
@@ -35,9 +34,9 @@ use Rattle.kept.proofs.Mutex.{LockDid, lock-moves, lock-marks, lock-sleeps, lock
 
 module _ (c m word : ℕ) where
   relock-kept :
-      (p : LockAt) (s : LockStep) → LockDid p word s →
+      (p : LockAt) (s : Step LockAt) → LockDid p word s →
       Kept (A.Condvar c (C.Wait m (Wt.Relock p))) word (condvar_plan c (C.Wait m (Wt.Relock p)) m (Cv.relock_step m s))
-  unfolding condvar_plan Cv.relock_step Mx.lock_passed Cv.passed_of Cv.wait_passed Cv.waits_of Cv.wait_waits Cv.needs_of Cv.wait_needs Cv.operand_of Cv.wait_operand Cv.object_of Cv.wait_object passed_of waits_of need_of kind_of object_of largest Did asks held_kind
+  unfolding plan_of Cv.relock_step Mx.lock_passed Cv.passed_of Cv.wait_passed Cv.waits_of Cv.wait_waits Cv.needs_of Cv.wait_needs Cv.operand_of Cv.wait_operand Cv.object_of Cv.wait_object passed_of waits_of need_of kind_of object_of largest Did asks held_kind
   relock-kept p s (lock-moves {q} h _) =
       kept_on _ word word (A.Condvar c (C.Wait m (Wt.Relock q))) m W.None waiting (λ e _ _. h e) (stores_same _ word) (inl refl)
   relock-kept p s (lock-marks h) =
@@ -51,9 +50,9 @@ module _ (c m word : ℕ) where
       (inl refl) (inr (refl, λ t. refl))
 
   unlock-kept :
-      (sequence : ℕ) (p : UnlockAt) (s : UnlockStep) → UnlockDid word p s →
+      (sequence : ℕ) (p : UnlockAt) (s : Step UnlockAt) → UnlockDid word p s →
       Kept (A.Condvar c (C.Wait m (Wt.Unlock sequence p))) word (condvar_plan c (C.Wait m (Wt.Unlock sequence p)) m (Cv.unlock_step m sequence s))
-  unfolding condvar_plan Cv.unlock_step Cv.passed_of Cv.wait_passed Cv.mutex_of Cv.needs_of Cv.wait_needs Mx.unlock_needs Cv.operand_of Cv.wait_operand Cv.object_of Cv.wait_object passed_of need_of kind_of object_of largest Did asks held_kind
+  unfolding plan_of Cv.unlock_step Cv.passed_of Cv.wait_passed Cv.mutex_of Cv.needs_of Cv.wait_needs Mx.unlock_needs Cv.operand_of Cv.wait_operand Cv.object_of Cv.wait_object passed_of need_of kind_of object_of largest Did asks held_kind
   unlock-kept sequence p s (unlock-wakes-next _) =
       kept-moved _ word UNLOCKED (A.Condvar c (C.Wait m (Wt.Unlock sequence U.Wake))) H.FreeMutex m W.None waiting (λ _ _ _. refl)
       (record { wide = λ _. omega arith; small = λ _ _. omega arith; did = λ _. mutex-freed refl })
@@ -67,12 +66,12 @@ module _ (c m word : ℕ) where
 
   wait-kept :
       (p : WaitAt) → Kept (A.Condvar c (C.Wait m p)) word (condvar_plan c (C.Wait m p) (Cv.object_of c (C.Wait m p)) (Cv.wait_of m p word))
-  unfolding condvar_plan Cv.wait_of Cv.moves Cv.sleeps Cv.wait_after_wait Cv.object_of Cv.wait_object Cv.passed_of Cv.wait_passed Mx.lock_passed Cv.mutex_of Cv.needs_of Cv.wait_needs Mx.unlock_needs Cv.waits_of Cv.wait_waits passed_of need_of waits_of
+  unfolding plan_of Cv.wait_of Cv.wait_after_wait Cv.object_of Cv.wait_object Cv.passed_of Cv.wait_passed Mx.lock_passed Cv.mutex_of Cv.needs_of Cv.wait_needs Mx.unlock_needs Cv.waits_of Cv.wait_waits passed_of need_of waits_of
   wait-kept Wt.Load =
       kept_on _ word word (A.Condvar c (C.Wait m (Wt.Unlock word U.Swap))) c W.None waiting (λ _ _ _. refl) (stores_same _ word) (inr (refl, refl))
   wait-kept (Wt.Unlock sequence p) = unlock-kept sequence p _ (unlock-did p word)
   wait-kept (Wt.Wait sequence) =
-      either (λ (s : CondvarStep). Kept (A.Condvar c (C.Wait m (Wt.Wait sequence))) word (condvar_plan c (C.Wait m (Wt.Wait sequence)) c s))
+      either (λ (s : Step CondvarAt). Kept (A.Condvar c (C.Wait m (Wt.Wait sequence))) word (condvar_plan c (C.Wait m (Wt.Wait sequence)) c s))
       (eqb word sequence) _ _
       (kept-slept _ word c refl)
       (kept_on _ word word (A.Condvar c (C.Wait m (Wt.Relock L.Exchange))) c W.None waiting (λ _ _ _. refl) (stores_same _ word) (inl refl))
@@ -84,7 +83,7 @@ more-one word = omega arith
 
 notify-kept :
     (c word : ℕ) (all : Bool) (p : NotifyAt) → Kept (A.Condvar c (C.Notify all p)) word (condvar_plan c (C.Notify all p) c (Cv.notify_of all p word))
-unfolding condvar_plan Cv.notify_of Cv.moves Cv.ends Cv.passed_of Cv.needs_of Cv.operand_of passed_of need_of kind_of largest Did
+unfolding plan_of Cv.notify_of Cv.passed_of Cv.needs_of Cv.operand_of passed_of need_of kind_of largest Did
 notify-kept c word all Nf.Add =
     let h : incremented word < 2 ^ 32 = more-one word in
     kept_on _ word (incremented word) (A.Condvar c (C.Notify all Nf.Wake)) c W.None notifying (λ _ _ _. refl)

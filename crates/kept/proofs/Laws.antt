@@ -79,7 +79,7 @@ module _ (at : At) (word : ℕ) where
       }
 
   -- the thread enters a closure
-  pub kept-entered : (new : ℕ) (q : At) (wake : Wake) → Goes at q → Passes at word q → Stores at word H.Same new → Asks at q H.Same → Kept at word (entered new q wake)
+  pub kept-entered : (new : ℕ) (q : At) (wake : Wake) → Goes at q → Passes at word q → Stores at word H.Same new → Asks at q H.Same → Kept at word (entered new q H.Same 0 wake)
   unfolding entered asks
   kept-entered new q wake g p s n =
       record { goes = g; passes = p; sleeps = λ e. no_way e; stores = s; asks-on = n; backed = inl refl; about = inl refl }

@@ -7,16 +7,17 @@ use native.Mathlib.Omega.{arith}
 use Rattle.words.specs.Parker.{PARKED, EMPTY, NOTIFIED, is_parked, is_notified, less_one}
 use Rattle.words.specs.declared.Hold.TheVariants as H
 use Rattle.words.specs.declared.Wake.TheVariants as W
+use Rattle.words.specs.declared.Step.{Step}
+use Rattle.words.specs.Steps as St
 use Rattle.thread_parking.specs.declared.ParkAt.{ParkAt}
 use Rattle.thread_parking.specs.declared.ParkAt.TheVariants as P
 use Rattle.thread_parking.specs.declared.UnparkAt.{UnparkAt}
 use Rattle.thread_parking.specs.declared.UnparkAt.TheVariants as U
 use Rattle.thread_parking.specs.declared.ParkerAt.{ParkerAt}
 use Rattle.thread_parking.specs.declared.ParkerAt.TheVariants as Pr
-use Rattle.thread_parking.specs.declared.ParkerStep.{ParkerStep}
 use Rattle.thread_parking.specs.ThreadParking as Pk
 use Rattle.calls.specs.declared.At.TheVariants as A
-use Rattle.calls.specs.Plans.{parker_plan, moved, decide_of}
+use Rattle.calls.specs.Plans.{parker_plan, moved, decide_of, plan_of}
 use Rattle.calls.specs.Positions.{passed_of, waits_of, need_of}
 use Rattle.words.proofs.Cond.{either}
 use Rattle.kept.specs.Laws.{Kept, Stores, Did, Goes, largest, kind_of, parking, unparking}
@@ -37,24 +38,24 @@ module _ (word : ℕ) where
   moves p q new g s = kept_on (A.Parker p) word new (A.Parker q) 0 W.None g (λ _ _ _. refl) s (inl refl)
 
   park-kept : (p : ParkAt) → Kept (A.Parker (Pr.Park p)) word (parker_plan (Pr.Park p) (Pk.park_of PARKED p word))
-  unfolding parker_plan Pk.park_of Pk.moves Pk.sleeps Pk.ends Pk.park_after_wait Pk.waits_of Pk.park_waits waits_of
+  unfolding plan_of Pk.park_of Pk.park_after_wait Pk.waits_of Pk.park_waits waits_of
   park-kept P.Subtract =
-      either (λ (s : ParkerStep). Kept (A.Parker (Pr.Park P.Subtract)) word (parker_plan (Pr.Park P.Subtract) s)) (is_notified word) _ _
+      either (λ (s : Step ParkerAt). Kept (A.Parker (Pr.Park P.Subtract)) word (parker_plan (Pr.Park P.Subtract) s)) (is_notified word) _ _
       (kept-end _ word (less_one PARKED word) 1 0 W.None (stores _ _ (less-one word)))
       (moves (Pr.Park P.Subtract) (Pr.Park P.Wait) (less_one PARKED word) parking (stores _ _ (less-one word)))
   park-kept P.Wait =
-      either (λ (s : ParkerStep). Kept (A.Parker (Pr.Park P.Wait)) word (parker_plan (Pr.Park P.Wait) s)) (is_parked PARKED word) _ _
+      either (λ (s : Step ParkerAt). Kept (A.Parker (Pr.Park P.Wait)) word (parker_plan (Pr.Park P.Wait) s)) (is_parked PARKED word) _ _
       (kept-slept _ word 0 refl)
       (moves (Pr.Park P.Wait) (Pr.Park P.Exchange) word parking (stores_same _ word))
   park-kept P.Exchange =
-      either (λ (s : ParkerStep). Kept (A.Parker (Pr.Park P.Exchange)) word (parker_plan (Pr.Park P.Exchange) s)) (is_notified word) _ _
+      either (λ (s : Step ParkerAt). Kept (A.Parker (Pr.Park P.Exchange)) word (parker_plan (Pr.Park P.Exchange) s)) (is_notified word) _ _
       (kept-end _ word EMPTY 1 0 W.None (stores _ _ (omega arith)))
       (moves (Pr.Park P.Exchange) (Pr.Park P.Wait) word parking (stores_same _ word))
 
   unpark-kept : (thread : ℕ) (p : UnparkAt) → Kept (A.Parker (Pr.Unpark thread p)) word (parker_plan (Pr.Unpark thread p) (Pk.unpark_of PARKED thread p word))
-  unfolding parker_plan Pk.unpark_of Pk.moves Pk.ends
+  unfolding plan_of Pk.unpark_of
   unpark-kept thread U.Swap =
-      either (λ (s : ParkerStep). Kept (A.Parker (Pr.Unpark thread U.Swap)) word (parker_plan (Pr.Unpark thread U.Swap) s)) (is_parked PARKED word) _ _
+      either (λ (s : Step ParkerAt). Kept (A.Parker (Pr.Unpark thread U.Swap)) word (parker_plan (Pr.Unpark thread U.Swap) s)) (is_parked PARKED word) _ _
       (moves (Pr.Unpark thread U.Swap) (Pr.Unpark thread U.Wake) NOTIFIED unparking (stores _ _ (omega arith)))
       (kept-end _ word NOTIFIED 1 0 W.None (stores _ _ (omega arith)))
   unpark-kept thread U.Wake = kept-end _ word word 1 0 W.One (stores_same _ word)

@@ -4,159 +4,149 @@
 #![tactic(auto)]
 
 use replay_log::{Ran, Stop};
-use std::io;
+use std::{fmt, io};
 use tally::Tally;
 use world::World;
 
 // More bytes than any run here writes.
 const BUFFER: usize = 4096;
 
-fn say(rt: &impl Print, words: &[u8]) -> io::Result<()> {
-    rt.write_all(words)
-}
-
-fn say_number(rt: &impl Print, n: u64) -> io::Result<()> {
-    rt.print(n)
-}
-
 // Document 01's example: thread 0 locks mutex 0, and thread 1 tries to.
-fn example() -> [u8; 40] {
-    [
-        177, 107, 1, 0, 0, 0, 0, 0, 0, 0, 177, 107, 2, 0, 0, 0, 0, 0, 0, 0, 177, 107, 1, 1, 1, 0,
-        0, 0, 0, 0, 177, 107, 2, 0, 1, 0, 0, 0, 0, 0,
-    ]
+const EXAMPLE: &[u8; 40] = b"\
+    \xB1k\x01\x00\x00\x00\x00\x00\x00\x00\
+    \xB1k\x02\x00\x00\x00\x00\x00\x00\x00\
+    \xB1k\x01\x01\x01\x00\x00\x00\x00\x00\
+    \xB1k\x02\x00\x01\x00\x00\x00\x00\x00\
+";
+
+// How the example is run.
+#[derive(Clone, Copy)]
+struct Run {
+    world: World,
+    tally: Tally,
+    // the first record's
+    number: u32,
+    // where in the example's bytes it starts
+    from: usize,
+    // for how many bytes of lines there is room
+    room: usize,
 }
 
-fn say_stop(rt: &impl Print, stop: Stop) -> io::Result<()> {
-    match stop {
-        Stop::Short => say(rt, b"short"),
-        Stop::Room => say(rt, b"no room"),
-        Stop::Ended { number } => {
-            say(rt, b"ended by ")?;
-            say_number(rt, number as u64)
+// From its start, on a fresh world, with nothing counted.
+fn example() -> Run {
+    Run {
+        world: world::fresh(),
+        tally: tally::nothing(),
+        number: 0,
+        from: 0,
+        room: BUFFER,
+    }
+}
+
+// Why a run stopped, in words.
+#[derive(Clone, Copy)]
+struct Told(Stop);
+
+impl fmt::Display for Told {
+    fn fmt<W: fmt::Write>(&self, f: &mut fmt::Formatter<W>) -> fmt::Result {
+        match self.0 {
+            Stop::Short => write!(f, "short"),
+            Stop::Room => write!(f, "no room"),
+            Stop::Ended { number } => write!(f, "ended by {number}"),
         }
     }
 }
 
-// The lines of a run and what it reached.
-fn tell(rt: &impl Print, ran: Ran, out: &[u8]) -> io::Result<()> {
-    let count = replay_log::within(ran.count, out);
-    rt.write_all(&out[..count])?;
-    say(rt, b"next ")?;
-    say_number(rt, ran.number as u64)?;
-    say(rt, b", used ")?;
-    say_number(rt, ran.used as u64)?;
-    say(rt, b", wrote ")?;
-    say_number(rt, ran.count as u64)?;
-    say(rt, b", ")?;
-    let stop = ran.stop;
-    say_stop(rt, stop)?;
-    say(rt, b"\n")
+// Where lines are laid, and where they are printed.
+#[derive(Drop)]
+struct Page<'a, P> {
+    rt: &'a P,
+    out: [u8; BUFFER],
 }
 
-// The tally's line.
-fn tell_tally(rt: &impl Print, t: Tally, out: &mut [u8]) -> io::Result<()> {
-    let end = lines::put_tally(out, 0, t);
-    let count = replay_log::within(end, out);
-    rt.write_all(&out[..count])
-}
+impl<P: Print> Page<'_, P> {
+    // The lines that are laid, up to their end.
+    fn print(&self, end: usize) -> io::Result<()> {
+        let count = replay_log::within(end, &self.out);
+        self.rt.write_all(&self.out[..count])
+    }
 
-// The example with a first number.
-fn numbered(rt: &impl Print, number: u32, out: &mut [u8]) -> io::Result<()> {
-    let log = example();
-    let ran = replay_log::run(world::fresh(), tally::nothing(), number, &log, out);
-    tell(rt, ran, out)?;
-    let t = ran.tally;
-    tell_tally(rt, t, out)
-}
+    fn run(&mut self, run: Run) -> Ran {
+        let room = replay_log::within(run.room, &self.out);
+        let out = &mut self.out[..room];
+        replay_log::run_from(run.world, run.tally, run.number, EXAMPLE, run.from, out)
+    }
 
-// The end of a log, with so many bytes left.
-fn left(rt: &impl Print, number: u32, bytes: usize, out: &mut [u8]) -> io::Result<()> {
-    let finished = replay_log::put_finish(tally::nothing(), number, bytes, out);
-    let count = replay_log::within(finished.count, out);
-    rt.write_all(&out[..count])?;
-    let t = finished.tally;
-    tell_tally(rt, t, out)
-}
+    // The lines of a run and what it reached.
+    fn tell(&mut self, run: Run) -> io::Result<Ran> {
+        let ran = self.run(run);
+        self.print(ran.count)?;
+        println!(self.rt;
+            "next {}, used {}, wrote {}, {}",
+            ran.number,
+            ran.used,
+            ran.count,
+            Told(ran.stop)
+        )?;
+        Ok(ran)
+    }
 
-// The example into so much room.
-fn roomed(rt: &impl Print, room: usize, out: &mut [u8]) -> io::Result<()> {
-    let log = example();
-    let size = replay_log::within(room, out);
-    let ran = replay_log::run(world::fresh(), tally::nothing(), 0, &log, &mut out[..size]);
-    tell(rt, ran, out)
-}
+    // The tally's line.
+    fn tell_tally(&mut self, tally: Tally) -> io::Result<()> {
+        let end = lines::put_tally(&mut self.out, 0, tally);
+        self.print(end)
+    }
 
-// The example from a place in it.
-fn started(rt: &impl Print, from: usize, out: &mut [u8]) -> io::Result<()> {
-    let log = example();
-    let ran = replay_log::run_from(world::fresh(), tally::nothing(), 0, &log, from, out);
-    tell(rt, ran, out)
-}
-
-// The example on a world whose mutex word is 3.
-fn unsound(rt: &impl Print, out: &mut [u8]) -> io::Result<()> {
-    let log = example();
-    let mut w = world::fresh();
-    w.words[0] = 3;
-    let ran = replay_log::run(w, tally::nothing(), 0, &log, out);
-    tell(rt, ran, out)?;
-    let t = ran.tally;
-    tell_tally(rt, t, out)
-}
-
-// The example, added to a tally.
-fn added(rt: &impl Print, t: Tally, out: &mut [u8]) -> io::Result<Tally> {
-    let log = example();
-    let ran = replay_log::run(world::fresh(), t, 0, &log, out);
-    let after = ran.tally;
-    tell_tally(rt, after, out)?;
-    Ok(after)
-}
-
-// Every count one below its largest value.
-fn nearly_full() -> Tally {
-    Tally {
-        grants: 0xFFFF_FFFF_FFFF_FFFE,
-        sleeps: 0xFFFF_FFFF_FFFF_FFFE,
-        wakes: 0xFFFF_FFFF_FFFF_FFFE,
-        panics: 0xFFFF_FFFF_FFFF_FFFE,
-        refused: 0xFFFF_FFFF_FFFF_FFFE,
+    // The end of a log, with so many bytes left.
+    fn tell_finish(&mut self, number: u32, left: usize) -> io::Result<()> {
+        let finished = replay_log::put_finish(tally::nothing(), number, left, &mut self.out);
+        self.print(finished.count)?;
+        self.tell_tally(finished.tally)
     }
 }
 
 fn main(rt: HostRuntime) -> io::Result<()> {
-    let mut out = [0; BUFFER];
-    say(&rt, b"first number 4294967291\n")?;
-    numbered(&rt, 4294967291, &mut out)?;
-    say(&rt, b"first number 4294967293\n")?;
-    numbered(&rt, 4294967293, &mut out)?;
-    say(&rt, b"first number 4294967295\n")?;
-    numbered(&rt, 4294967295, &mut out)?;
-    say(&rt, b"0 bytes left behind the last number\n")?;
-    left(&rt, 4294967295, 0, &mut out)?;
-    say(&rt, b"1 byte left behind the last number\n")?;
-    left(&rt, 4294967295, 1, &mut out)?;
-    say(&rt, b"9 bytes left\n")?;
-    left(&rt, 7, 9, &mut out)?;
-    say(&rt, b"room for 0 bytes\n")?;
-    roomed(&rt, 0, &mut out)?;
-    say(&rt, b"room for 11 bytes\n")?;
-    roomed(&rt, 11, &mut out)?;
-    say(&rt, b"room for 12 bytes\n")?;
-    roomed(&rt, 12, &mut out)?;
-    say(&rt, b"room for 46 bytes\n")?;
-    roomed(&rt, 46, &mut out)?;
-    say(&rt, b"start at 20\n")?;
-    started(&rt, 20, &mut out)?;
-    say(&rt, b"start at 40\n")?;
-    started(&rt, 40, &mut out)?;
-    say(&rt, b"start at 41\n")?;
-    started(&rt, 41, &mut out)?;
-    say(&rt, b"a world whose parts disagree\n")?;
-    unsound(&rt, &mut out)?;
-    say(&rt, b"counts near their largest\n")?;
-    let once = added(&rt, nearly_full(), &mut out)?;
-    added(&rt, once, &mut out)?;
+    let out = [0; BUFFER];
+    let mut page = Page { rt: &rt, out };
+    for number in [4294967291, 4294967293, 4294967295] {
+        println!(rt; "first number {number}")?;
+        let ran = page.tell(Run {
+            number,
+            ..example()
+        })?;
+        page.tell_tally(ran.tally)?;
+    }
+    println!(rt; "0 bytes left behind the last number")?;
+    page.tell_finish(4294967295, 0)?;
+    println!(rt; "1 byte left behind the last number")?;
+    page.tell_finish(4294967295, 1)?;
+    println!(rt; "9 bytes left")?;
+    page.tell_finish(7, 9)?;
+    for room in [0, 11, 12, 46] {
+        println!(rt; "room for {room} bytes")?;
+        page.tell(Run { room, ..example() })?;
+    }
+    let end = EXAMPLE.len();
+    for from in [end / 2, end, end + 1] {
+        println!(rt; "start at {from}")?;
+        page.tell(Run { from, ..example() })?;
+    }
+    println!(rt; "a world whose parts disagree")?;
+    let mut world = world::fresh();
+    world.words[0] = 3;
+    let ran = page.tell(Run { world, ..example() })?;
+    page.tell_tally(ran.tally)?;
+    println!(rt; "counts near their largest")?;
+    let mut tally = Tally {
+        grants: u64::MAX - 1,
+        sleeps: u64::MAX - 1,
+        wakes: u64::MAX - 1,
+        panics: u64::MAX - 1,
+        refused: u64::MAX - 1,
+    };
+    for _ in 0..2 {
+        tally = page.run(Run { tally, ..example() }).tally;
+        page.tell_tally(tally)?;
+    }
     Ok(())
 }

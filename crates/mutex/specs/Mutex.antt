@@ -7,7 +7,9 @@ use Rattle.words.specs.declared.Kind.{Kind}
 use Rattle.words.specs.declared.Kind.TheVariants as K
 use Rattle.words.specs.declared.Needs.{Needs}
 use Rattle.words.specs.declared.Needs.TheVariants as N
+use Rattle.words.specs.declared.Step.{Step}
 use Rattle.words.specs.declared.Wake.TheVariants as W
+use Rattle.words.specs.Steps.{moves_with, moves, sleeps, ends, map_step}
 use Rattle.mutex.specs.declared.MutexCall.{MutexCall}
 use Rattle.mutex.specs.declared.MutexCall.TheVariants as C
 use Rattle.mutex.specs.declared.LockAt.{LockAt}
@@ -16,15 +18,6 @@ use Rattle.mutex.specs.declared.UnlockAt.{UnlockAt}
 use Rattle.mutex.specs.declared.UnlockAt.TheVariants as U
 use Rattle.mutex.specs.declared.MutexAt.{MutexAt}
 use Rattle.mutex.specs.declared.MutexAt.TheVariants as M
-use Rattle.mutex.specs.declared.LockNext.{LockNext}
-use Rattle.mutex.specs.declared.LockNext.TheVariants as LN
-use Rattle.mutex.specs.declared.UnlockNext.{UnlockNext}
-use Rattle.mutex.specs.declared.UnlockNext.TheVariants as UN
-use Rattle.mutex.specs.declared.MutexNext.{MutexNext}
-use Rattle.mutex.specs.declared.MutexNext.TheVariants as MN
-use Rattle.mutex.specs.declared.LockStep.{LockStep}
-use Rattle.mutex.specs.declared.UnlockStep.{UnlockStep}
-use Rattle.mutex.specs.declared.MutexStep.{MutexStep}
 
 -- where each call starts
 unfoldable pub entry_of : MutexCall → MutexAt
@@ -32,15 +25,9 @@ entry_of C.Lock = M.Lock L.Exchange
 entry_of C.TryLock = M.TryLock
 entry_of C.Unlock = M.Unlock U.Swap
 
--- a step of `lock` leads on, sleeps, or ends with the lock taken
-unfoldable pub moves : ℕ → LockAt → LockStep
-moves word at = record { word = word; next = LN.Moved at; hold = H.Same; wake = W.None }
-
-unfoldable pub sleeps : ℕ → LockStep
-sleeps word = record { word = word; next = LN.Asleep; hold = H.Same; wake = W.None }
-
-unfoldable pub takes : ℕ → LockStep
-takes word = record { word = word; next = LN.Ended; hold = H.TakeMutex; wake = W.None }
+-- `lock` ends with the lock taken; it returns nothing, which is told as 1, and so does `unlock`
+unfoldable pub takes : ℕ → Step LockAt
+takes word = ends word 1 H.TakeMutex W.None
 
 -- after a futex_wait, woken or not: `state = self.spin()` at the loop's end
 unfoldable pub lock_after_wait : LockAt → LockAt
@@ -52,15 +39,15 @@ lock_after_wait L.Wait = L.SpinAgain SPINS
 lock_after_wait (L.SpinAgain left) = L.SpinAgain left
 
 -- the loop of `lock_contended` with the state seen: the swap, unless it is marked as contended already
-unfoldable pub contended : ℕ → LockStep
+unfoldable pub contended : ℕ → Step LockAt
 contended state = cond (is_contended state) (moves state L.Wait) (moves state L.Swap)
 
 -- `lock_contended` after its first spin: if the mutex is free, the one attempt to take it without marking it as contended
-unfoldable pub spun : ℕ → LockStep
+unfoldable pub spun : ℕ → Step LockAt
 spun state = cond (is_unlocked state) (moves state L.ExchangeAgain) (contended state)
 
 -- `lock`, `lock_contended` and `spin`
-unfoldable pub lock_of : LockAt → ℕ → LockStep
+unfoldable pub lock_of : LockAt → ℕ → Step LockAt
 lock_of L.Exchange word = cond (is_unlocked word) (takes LOCKED) (moves word (L.Spin SPINS))
 lock_of (L.Spin left) word = cond (is_locked word && not (eqb left 0)) (moves word (L.Spin (left - 1))) (spun word)
 lock_of L.ExchangeAgain word = cond (is_unlocked word) (takes LOCKED) (contended word)
@@ -69,41 +56,20 @@ lock_of L.Wait word = cond (is_contended word) (sleeps word) (moves word (lock_a
 lock_of (L.SpinAgain left) word = cond (is_locked word && not (eqb left 0)) (moves word (L.SpinAgain (left - 1))) (contended word)
 
 -- `try_lock`
-unfoldable pub try_lock_of : ℕ → MutexStep
-try_lock_of word =
-    cond (is_unlocked word)
-    (record { word = LOCKED; next = MN.Ended 1; hold = H.TakeMutex; wake = W.None })
-    (record { word = word; next = MN.Ended 0; hold = H.Same; wake = W.None })
+unfoldable pub try_lock_of : ℕ → Step MutexAt
+try_lock_of word = cond (is_unlocked word) (ends LOCKED 1 H.TakeMutex W.None) (ends word 0 H.Same W.None)
 
 -- `unlock` and `wake`
-unfoldable pub unlock_of : UnlockAt → ℕ → UnlockStep
+unfoldable pub unlock_of : UnlockAt → ℕ → Step UnlockAt
 unlock_of U.Swap word =
-    cond (is_contended word)
-    (record { word = UNLOCKED; next = UN.Moved U.Wake; hold = H.FreeMutex; wake = W.None })
-    (record { word = UNLOCKED; next = UN.Ended; hold = H.FreeMutex; wake = W.None })
-unlock_of U.Wake word = record { word = word; next = UN.Ended; hold = H.Same; wake = W.One }
-
--- a step of `lock` or `unlock` as one of a call on the mutex; both return nothing, which is told as 1
-abbrev pub lock_next : LockNext → MutexNext
-lock_next (LN.Moved p) = MN.Moved (M.Lock p)
-lock_next LN.Asleep = MN.Asleep
-lock_next LN.Ended = MN.Ended 1
-
-unfoldable pub lock_step : LockStep → MutexStep
-lock_step s = record { word = s.word; next = lock_next s.next; hold = s.hold; wake = s.wake }
-
-abbrev pub unlock_next : UnlockNext → MutexNext
-unlock_next (UN.Moved p) = MN.Moved (M.Unlock p)
-unlock_next UN.Ended = MN.Ended 1
-
-unfoldable pub unlock_step : UnlockStep → MutexStep
-unlock_step s = record { word = s.word; next = unlock_next s.next; hold = s.hold; wake = s.wake }
+    cond (is_contended word) (moves_with UNLOCKED U.Wake H.FreeMutex W.None) (ends UNLOCKED 1 H.FreeMutex W.None)
+unlock_of U.Wake word = ends word 1 H.Same W.One
 
 -- one step, over the mutex's word
-unfoldable pub decide_of : MutexAt → Bool → ℕ → Bool → MutexStep
-decide_of (M.Lock p) fails word anyone = lock_step (lock_of p word)
+unfoldable pub decide_of : MutexAt → Bool → ℕ → Bool → Step MutexAt
+decide_of (M.Lock p) fails word anyone = map_step M.Lock (lock_of p word)
 decide_of M.TryLock fails word anyone = try_lock_of word
-decide_of (M.Unlock p) fails word anyone = unlock_step (unlock_of p word)
+decide_of (M.Unlock p) fails word anyone = map_step M.Unlock (unlock_of p word)
 
 unfoldable pub after_wait : MutexAt → MutexAt
 after_wait (M.Lock p) = M.Lock (lock_after_wait p)

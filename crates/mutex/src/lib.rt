@@ -1,11 +1,11 @@
 // std's futex mutex (mutex/futex.rs) as a step machine: a step runs one atomic operation or one futex
 // call, then the local code up to the next one.
-#![tactic(auto, unfolding(crate::specs::Mutex::after_wait, crate::specs::Mutex::contended, crate::specs::Mutex::decide_of, crate::specs::Mutex::entry_of, crate::specs::Mutex::lock_after_wait, crate::specs::Mutex::lock_of, crate::specs::Mutex::lock_passed, crate::specs::Mutex::lock_step, crate::specs::Mutex::lock_waits, crate::specs::Mutex::may_wake, crate::specs::Mutex::moves, crate::specs::Mutex::needs_of, crate::specs::Mutex::operand_of, crate::specs::Mutex::passed_of, crate::specs::Mutex::sleeps, crate::specs::Mutex::spun, crate::specs::Mutex::takes, crate::specs::Mutex::try_lock_of, crate::specs::Mutex::unlock_may_wake, crate::specs::Mutex::unlock_needs, crate::specs::Mutex::unlock_of, crate::specs::Mutex::unlock_step, crate::specs::Mutex::waits_of, crate::specs::Mutex::weak_next))]
+#![tactic(auto, unfolding(crate::specs::Mutex::after_wait, crate::specs::Mutex::contended, crate::specs::Mutex::decide_of, crate::specs::Mutex::entry_of, crate::specs::Mutex::lock_after_wait, crate::specs::Mutex::lock_of, crate::specs::Mutex::lock_passed, crate::specs::Mutex::lock_waits, crate::specs::Mutex::may_wake, crate::specs::Mutex::needs_of, crate::specs::Mutex::operand_of, crate::specs::Mutex::passed_of, crate::specs::Mutex::spun, crate::specs::Mutex::takes, crate::specs::Mutex::try_lock_of, crate::specs::Mutex::unlock_may_wake, crate::specs::Mutex::unlock_needs, crate::specs::Mutex::unlock_of, crate::specs::Mutex::waits_of, crate::specs::Mutex::weak_next))]
 
 ghost use Rattle.std.specs.Prelude.{◌≡◌};
-ghost use Rattle.mutex.specs.Mutex.{entry_of, lock_of, contended, spun, try_lock_of, unlock_of, decide_of, lock_after_wait, after_wait, operand_of, weak_next, lock_passed, passed_of, unlock_needs, needs_of, lock_waits, waits_of, unlock_may_wake, may_wake, moves, sleeps, takes, lock_step, unlock_step};
+ghost use Rattle.mutex.specs.Mutex.{entry_of, lock_of, contended, spun, try_lock_of, unlock_of, decide_of, lock_after_wait, after_wait, operand_of, weak_next, lock_passed, passed_of, unlock_needs, needs_of, lock_waits, waits_of, unlock_may_wake, may_wake, takes};
 
-use words::{Hold, Kind, MutexWord, Needs, Wake};
+use words::{Hold, Kind, MutexWord, Needs, SPINS, Step, Wake};
 
 #[derive(Clone, Copy)]
 pub enum MutexCall {
@@ -47,53 +47,6 @@ pub enum MutexAt {
     Unlock { at: UnlockAt },
 }
 
-#[derive(Clone, Copy)]
-pub enum LockNext {
-    Moved(LockAt),
-    Asleep,
-    Ended,
-}
-
-// What a step of `lock` does.
-#[derive(Clone, Copy)]
-pub struct LockStep {
-    pub word: u32,
-    pub next: LockNext,
-    pub hold: Hold,
-    pub wake: Wake,
-}
-
-#[derive(Clone, Copy)]
-pub enum UnlockNext {
-    Moved(UnlockAt),
-    Ended,
-}
-
-// What a step of `unlock` does.
-#[derive(Clone, Copy)]
-pub struct UnlockStep {
-    pub word: u32,
-    pub next: UnlockNext,
-    pub hold: Hold,
-    pub wake: Wake,
-}
-
-#[derive(Clone, Copy)]
-pub enum MutexNext {
-    Moved(MutexAt),
-    Asleep,
-    Ended(u8),
-}
-
-// What a step of a call on a mutex does.
-#[derive(Clone, Copy)]
-pub struct MutexStep {
-    pub word: u32,
-    pub next: MutexNext,
-    pub hold: Hold,
-    pub wake: Wake,
-}
-
 pub fn entry(call: MutexCall) -> MutexAt
     ensures { result ≡ entry_of call }
 {
@@ -106,264 +59,97 @@ pub fn entry(call: MutexCall) -> MutexAt
     }
 }
 
-fn moves(word: u32, at: LockAt) -> LockStep
-    ensures { result ≡ moves word at }
-{
-    LockStep {
-        word: word,
-        next: LockNext::Moved(at),
-        hold: Hold::Same,
-        wake: Wake::None,
-    }
-}
-
-fn sleeps(word: u32) -> LockStep
-    ensures { result ≡ sleeps word }
-{
-    LockStep {
-        word: word,
-        next: LockNext::Asleep,
-        hold: Hold::Same,
-        wake: Wake::None,
-    }
-}
-
-fn takes(word: u32) -> LockStep
+// `lock` ends with the mutex taken.
+fn takes(word: u32) -> Step<LockAt>
     ensures { result ≡ takes word }
 {
-    LockStep {
-        word: word,
-        next: LockNext::Ended,
-        hold: Hold::TakeMutex,
-        wake: Wake::None,
-    }
-}
-
-fn exchange(word: u32) -> LockStep
-    ensures { result ≡ lock_of LockAt.Exchange word }
-{
-    let unlocked = MutexWord::is_unlocked(word);
-    if unlocked {
-        return takes(MutexWord::LOCKED);
-    }
-    // Spin first to speed things up if the lock is released quickly.
-    moves(word, LockAt::Spin { left: words::SPINS })
+    Step::ends(word, 1, Hold::TakeMutex, Wake::None)
 }
 
 // The loop of lock_contended, with the state seen.
-fn contended(state: u32) -> LockStep
+fn contended(state: u32) -> Step<LockAt>
     ensures { result ≡ contended state }
 {
     // The swap is spared where the lock is contended already.
-    let marked = MutexWord::is_contended(state);
-    if marked {
-        return moves(state, LockAt::Wait);
+    if MutexWord::is_contended(state) {
+        return Step::moves(state, LockAt::Wait);
     }
-    moves(state, LockAt::Swap)
+    Step::moves(state, LockAt::Swap)
 }
 
 // After the first spin, with the state seen.
-fn spun(state: u32) -> LockStep
+fn spun(state: u32) -> Step<LockAt>
     ensures { result ≡ spun state }
 {
     // If it's unlocked now, attempt to take the lock without marking it as contended.
-    let unlocked = MutexWord::is_unlocked(state);
-    if unlocked {
-        return moves(state, LockAt::ExchangeAgain);
+    if MutexWord::is_unlocked(state) {
+        return Step::moves(state, LockAt::ExchangeAgain);
     }
     contended(state)
 }
 
-fn spin(left: u8, word: u32) -> LockStep
-    ensures { result ≡ lock_of (LockAt.Spin left) word }
-{
-    // We stop spinning when the mutex is UNLOCKED, but also when it's CONTENDED.
-    let locked = MutexWord::is_locked(word);
-    if locked {
-        if left == 0 {
-            return spun(word);
-        }
-        return moves(word, LockAt::Spin { left: left - 1 });
-    }
-    spun(word)
-}
-
-fn exchange_again(word: u32) -> LockStep
-    ensures { result ≡ lock_of LockAt.ExchangeAgain word }
-{
-    let unlocked = MutexWord::is_unlocked(word);
-    if unlocked {
-        return takes(MutexWord::LOCKED);
-    }
-    contended(word)
-}
-
-fn swap(word: u32) -> LockStep
-    ensures { result ≡ lock_of LockAt.Swap word }
-{
-    let unlocked = MutexWord::is_unlocked(word);
-    if unlocked {
-        // From UNLOCKED to CONTENDED: it is locked, and whoever else waits is remembered.
-        return takes(MutexWord::CONTENDED);
-    }
-    moves(MutexWord::CONTENDED, LockAt::Wait)
-}
-
-fn wait(word: u32) -> LockStep
-    ensures { result ≡ lock_of LockAt.Wait word }
-{
-    let marked = MutexWord::is_contended(word);
-    if marked {
-        return sleeps(word);
-    }
-    let at = lock_after_wait(LockAt::Wait);
-    moves(word, at)
-}
-
-fn spin_again(left: u8, word: u32) -> LockStep
-    ensures { result ≡ lock_of (LockAt.SpinAgain left) word }
-{
-    let locked = MutexWord::is_locked(word);
-    if locked {
-        if left == 0 {
-            return contended(word);
-        }
-        return moves(word, LockAt::SpinAgain { left: left - 1 });
-    }
-    contended(word)
-}
-
 // One step of `lock`.
-pub fn lock(at: LockAt, word: u32) -> LockStep
+pub fn lock(at: LockAt, word: u32) -> Step<LockAt>
     ensures { result ≡ lock_of at word }
 {
     match at {
-        LockAt::Exchange => exchange(word),
-        LockAt::Spin { left } => spin(left, word),
-        LockAt::ExchangeAgain => exchange_again(word),
-        LockAt::Swap => swap(word),
-        LockAt::Wait => wait(word),
-        LockAt::SpinAgain { left } => spin_again(left, word),
+        LockAt::Exchange if MutexWord::is_unlocked(word) => takes(MutexWord::LOCKED),
+        // Spin first to speed things up if the lock is released quickly.
+        LockAt::Exchange => Step::moves(word, LockAt::Spin { left: SPINS }),
+        // We stop spinning when the mutex is UNLOCKED, but also when it's CONTENDED.
+        LockAt::Spin { left } if MutexWord::is_locked(word) && left != 0 => {
+            Step::moves(word, LockAt::Spin { left: left - 1 })
+        }
+        LockAt::Spin { .. } => spun(word),
+        LockAt::ExchangeAgain if MutexWord::is_unlocked(word) => takes(MutexWord::LOCKED),
+        LockAt::ExchangeAgain => contended(word),
+        // From UNLOCKED to CONTENDED: it is locked, and whoever else waits is remembered.
+        LockAt::Swap if MutexWord::is_unlocked(word) => takes(MutexWord::CONTENDED),
+        LockAt::Swap => Step::moves(MutexWord::CONTENDED, LockAt::Wait),
+        LockAt::Wait if MutexWord::is_contended(word) => Step::sleeps(word),
+        LockAt::Wait => Step::moves(word, lock_after_wait(at)),
+        LockAt::SpinAgain { left } if MutexWord::is_locked(word) && left != 0 => {
+            Step::moves(word, LockAt::SpinAgain { left: left - 1 })
+        }
+        LockAt::SpinAgain { .. } => contended(word),
     }
 }
 
 // One step of `try_lock`, which is all of it.
-pub fn try_lock(word: u32) -> MutexStep
+pub fn try_lock(word: u32) -> Step<MutexAt>
     ensures { result ≡ try_lock_of word }
 {
-    let unlocked = MutexWord::is_unlocked(word);
-    if unlocked {
-        return MutexStep {
-            word: MutexWord::LOCKED,
-            next: MutexNext::Ended(1),
-            hold: Hold::TakeMutex,
-            wake: Wake::None,
-        };
+    if MutexWord::is_unlocked(word) {
+        return Step::ends(MutexWord::LOCKED, 1, Hold::TakeMutex, Wake::None);
     }
-    MutexStep {
-        word: word,
-        next: MutexNext::Ended(0),
-        hold: Hold::Same,
-        wake: Wake::None,
-    }
-}
-
-fn unlock_swap(word: u32) -> UnlockStep
-    ensures { result ≡ unlock_of UnlockAt.Swap word }
-{
-    let marked = MutexWord::is_contended(word);
-    if marked {
-        // We only wake up one thread. When that thread locks the mutex, it will mark the mutex as
-        // CONTENDED (see lock), so that any other waiting threads will also be woken up eventually.
-        return UnlockStep {
-            word: MutexWord::UNLOCKED,
-            next: UnlockNext::Moved(UnlockAt::Wake),
-            hold: Hold::FreeMutex,
-            wake: Wake::None,
-        };
-    }
-    UnlockStep {
-        word: MutexWord::UNLOCKED,
-        next: UnlockNext::Ended,
-        hold: Hold::FreeMutex,
-        wake: Wake::None,
-    }
+    Step::ends(word, 0, Hold::Same, Wake::None)
 }
 
 // One step of `unlock`.
-pub fn unlock(at: UnlockAt, word: u32) -> UnlockStep
+pub fn unlock(at: UnlockAt, word: u32) -> Step<UnlockAt>
     ensures { result ≡ unlock_of at word }
 {
+    let unlocked = MutexWord::UNLOCKED;
     match at {
-        UnlockAt::Swap => unlock_swap(word),
-        UnlockAt::Wake => UnlockStep {
-            word: word,
-            next: UnlockNext::Ended,
-            hold: Hold::Same,
-            wake: Wake::One,
-        },
-    }
-}
-
-fn lock_step(s: LockStep) -> MutexStep
-    ensures { result ≡ lock_step s }
-{
-    let next = s.next;
-    let hold = s.hold;
-    let wake = s.wake;
-    match next {
-        LockNext::Moved(p) => MutexStep {
-            word: s.word,
-            next: MutexNext::Moved(MutexAt::Lock { at: p }),
-            hold: hold,
-            wake: wake,
-        },
-        LockNext::Asleep => MutexStep {
-            word: s.word,
-            next: MutexNext::Asleep,
-            hold: hold,
-            wake: wake,
-        },
-        LockNext::Ended => MutexStep {
-            word: s.word,
-            next: MutexNext::Ended(1),
-            hold: hold,
-            wake: wake,
-        },
-    }
-}
-
-fn unlock_step(s: UnlockStep) -> MutexStep
-    ensures { result ≡ unlock_step s }
-{
-    let next = s.next;
-    let hold = s.hold;
-    let wake = s.wake;
-    match next {
-        UnlockNext::Moved(p) => MutexStep {
-            word: s.word,
-            next: MutexNext::Moved(MutexAt::Unlock { at: p }),
-            hold: hold,
-            wake: wake,
-        },
-        UnlockNext::Ended => MutexStep {
-            word: s.word,
-            next: MutexNext::Ended(1),
-            hold: hold,
-            wake: wake,
-        },
+        // We only wake up one thread. When that thread locks the mutex, it will mark the mutex as
+        // CONTENDED (see lock), so that any other waiting threads will also be woken up eventually.
+        UnlockAt::Swap if MutexWord::is_contended(word) => {
+            Step::moves_with(unlocked, UnlockAt::Wake, Hold::FreeMutex, Wake::None)
+        }
+        UnlockAt::Swap => Step::ends(unlocked, 1, Hold::FreeMutex, Wake::None),
+        UnlockAt::Wake => Step::ends(word, 1, Hold::Same, Wake::One),
     }
 }
 
 // One step of a thread at `at`, over the mutex's word. No exchange of this module is weak, and none of
 // its calls asks whether it woke anybody.
-pub fn decide(at: MutexAt, fails: bool, word: u32, anyone: bool) -> MutexStep
+pub fn decide(at: MutexAt, fails: bool, word: u32, anyone: bool) -> Step<MutexAt>
     ensures { result ≡ decide_of at fails word anyone }
 {
     match at {
-        MutexAt::Lock { at: p } => lock_step(lock(p, word)),
+        MutexAt::Lock { at } => lock(at, word).map(|at| MutexAt::Lock { at }),
         MutexAt::TryLock => try_lock(word),
-        MutexAt::Unlock { at: p } => unlock_step(unlock(p, word)),
+        MutexAt::Unlock { at } => unlock(at, word).map(|at| MutexAt::Unlock { at }),
     }
 }
 
@@ -373,12 +159,8 @@ pub fn lock_after_wait(at: LockAt) -> LockAt
     ensures { result ≡ lock_after_wait at }
 {
     match at {
-        LockAt::Exchange => LockAt::Exchange,
-        LockAt::Spin { left } => LockAt::Spin { left: left },
-        LockAt::ExchangeAgain => LockAt::ExchangeAgain,
-        LockAt::Swap => LockAt::Swap,
-        LockAt::Wait => LockAt::SpinAgain { left: words::SPINS },
-        LockAt::SpinAgain { left } => LockAt::SpinAgain { left: left },
+        LockAt::Wait => LockAt::SpinAgain { left: SPINS },
+        other => other,
     }
 }
 
@@ -387,11 +169,10 @@ pub fn after_wait(at: MutexAt) -> MutexAt
     ensures { result ≡ after_wait at }
 {
     match at {
-        MutexAt::Lock { at: p } => MutexAt::Lock {
-            at: lock_after_wait(p),
+        MutexAt::Lock { at } => MutexAt::Lock {
+            at: lock_after_wait(at),
         },
-        MutexAt::TryLock => MutexAt::TryLock,
-        MutexAt::Unlock { at: p } => MutexAt::Unlock { at: p },
+        other => other,
     }
 }
 
@@ -414,12 +195,8 @@ pub fn lock_passed(at: LockAt) -> bool
     ensures { result ≡ lock_passed at }
 {
     match at {
-        LockAt::Exchange => true,
-        LockAt::Spin { left } => left <= words::SPINS,
-        LockAt::ExchangeAgain => true,
-        LockAt::Swap => true,
-        LockAt::Wait => true,
-        LockAt::SpinAgain { left } => left <= words::SPINS,
+        LockAt::Spin { left } | LockAt::SpinAgain { left } => left <= SPINS,
+        _ => true,
     }
 }
 
@@ -428,9 +205,8 @@ pub fn passed(at: MutexAt) -> bool
     ensures { result ≡ passed_of at }
 {
     match at {
-        MutexAt::Lock { at: p } => lock_passed(p),
-        MutexAt::TryLock => true,
-        MutexAt::Unlock { at: _ } => true,
+        MutexAt::Lock { at } => lock_passed(at),
+        MutexAt::TryLock | MutexAt::Unlock { .. } => true,
     }
 }
 
@@ -449,9 +225,8 @@ pub fn needs(at: MutexAt) -> Needs
     ensures { result ≡ needs_of at }
 {
     match at {
-        MutexAt::Lock { at: _ } => Needs::Nothing,
-        MutexAt::TryLock => Needs::Nothing,
-        MutexAt::Unlock { at: p } => unlock_needs(p),
+        MutexAt::Unlock { at } => unlock_needs(at),
+        MutexAt::Lock { .. } | MutexAt::TryLock => Needs::Nothing,
     }
 }
 
@@ -459,44 +234,26 @@ pub fn needs(at: MutexAt) -> Needs
 pub fn lock_waits(at: LockAt) -> bool
     ensures { result ≡ lock_waits at }
 {
-    match at {
-        LockAt::Exchange => false,
-        LockAt::Spin { left: _ } => false,
-        LockAt::ExchangeAgain => false,
-        LockAt::Swap => false,
-        LockAt::Wait => true,
-        LockAt::SpinAgain { left: _ } => false,
-    }
+    matches!(at, LockAt::Wait)
 }
 
 // Whether the next operation is a futex_wait: a sleeper stands at one.
 pub fn waits(at: MutexAt) -> bool
     ensures { result ≡ waits_of at }
 {
-    match at {
-        MutexAt::Lock { at: p } => lock_waits(p),
-        MutexAt::TryLock => false,
-        MutexAt::Unlock { at: _ } => false,
-    }
+    matches!(at, MutexAt::Lock { at: LockAt::Wait })
 }
 
 // Whether `unlock` is at its futex_wake.
 pub fn unlock_may_wake(at: UnlockAt) -> bool
     ensures { result ≡ unlock_may_wake at }
 {
-    match at {
-        UnlockAt::Swap => false,
-        UnlockAt::Wake => true,
-    }
+    matches!(at, UnlockAt::Wake)
 }
 
 // Whether the next operation may wake a sleeper.
 pub fn may_wake(at: MutexAt) -> bool
     ensures { result ≡ may_wake at }
 {
-    match at {
-        MutexAt::Lock { at: _ } => false,
-        MutexAt::TryLock => false,
-        MutexAt::Unlock { at: p } => unlock_may_wake(p),
-    }
+    matches!(at, MutexAt::Unlock { at: UnlockAt::Wake })
 }

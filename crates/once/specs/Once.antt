@@ -2,11 +2,14 @@
 use Rattle.std.specs.Prelude.{ℕ, ◌+◌, Bool, true, false, not, cond, ◌&&◌, ◌||◌, eqb}
 use Rattle.words.specs.Atomic.{exchanges}
 use Rattle.words.specs.Once.{INCOMPLETE, POISONED, RUNNING, COMPLETE, QUEUED, state_of, is_queued, with_queued, running_with}
-use Rattle.words.specs.Panic.{once_poisoned, closure_panicked}
+use Rattle.words.specs.Steps.{moves, sleeps, ends, panics, enters}
+use Rattle.words.specs.declared.Hold.TheVariants as H
 use Rattle.words.specs.declared.Kind.{Kind}
 use Rattle.words.specs.declared.Kind.TheVariants as K
 use Rattle.words.specs.declared.Needs.{Needs}
 use Rattle.words.specs.declared.Needs.TheVariants as N
+use Rattle.words.specs.declared.Panic.TheVariants as P
+use Rattle.words.specs.declared.Step.{Step}
 use Rattle.words.specs.declared.Wake.{Wake}
 use Rattle.words.specs.declared.Wake.TheVariants as W
 use Rattle.once.specs.declared.OnceCall.{OnceCall}
@@ -19,8 +22,6 @@ use Rattle.once.specs.declared.WaitAt.{WaitAt}
 use Rattle.once.specs.declared.WaitAt.TheVariants as Wt
 use Rattle.once.specs.declared.OnceAt.{OnceAt}
 use Rattle.once.specs.declared.OnceAt.TheVariants as A
-use Rattle.once.specs.declared.OnceNext.TheVariants as ON
-use Rattle.once.specs.declared.OnceStep.{OnceStep}
 
 -- where each call starts
 unfoldable pub entry_of : OnceCall → OnceAt
@@ -28,40 +29,24 @@ entry_of (O.Call ignores) = A.Call ignores C.Load
 entry_of (O.Wait ignores) = A.Wait ignores Wt.Load
 entry_of O.IsCompleted = A.IsCompleted
 
--- a step leads on, sleeps, ends the call with a value, panics, or enters the closure
-unfoldable pub moves : ℕ → OnceAt → OnceStep
-moves word at = record { word = word; next = ON.Moved at; wake = W.None }
-
-unfoldable pub sleeps : ℕ → OnceStep
-sleeps word = record { word = word; next = ON.Asleep; wake = W.None }
-
-unfoldable pub ends : ℕ → ℕ → Wake → OnceStep
-ends word value wake = record { word = word; next = ON.Ended value; wake = wake }
-
-unfoldable pub panics : ℕ → ℕ → Wake → OnceStep
-panics word number wake = record { word = word; next = ON.Panic number; wake = wake }
-
-unfoldable pub enters : ℕ → OnceAt → OnceStep
-enters word at = record { word = word; next = ON.Closure at; wake = W.None }
-
 -- a thread waits: with QUEUED set already it goes on to the futex_wait, else it sets it first
-unfoldable pub queues : OnceAt → OnceAt → ℕ → OnceStep
+unfoldable pub queues : OnceAt → OnceAt → ℕ → Step OnceAt
 queues waiting setting seen = cond (is_queued seen) (moves seen waiting) (moves seen setting)
 
 -- the top of `call`'s loop with the value seen; all states but these are RUNNING
-unfoldable pub call_top : Bool → ℕ → OnceStep
+unfoldable pub call_top : Bool → ℕ → Step OnceAt
 call_top ignores seen =
-    cond (eqb (state_of seen) COMPLETE) (ends seen 1 W.None)
-    (cond (eqb (state_of seen) POISONED && not ignores) (panics seen once_poisoned W.None)
+    cond (eqb (state_of seen) COMPLETE) (ends seen 1 H.Same W.None)
+    (cond (eqb (state_of seen) POISONED && not ignores) (panics seen P.OncePoisoned W.None)
     (cond (eqb (state_of seen) POISONED || eqb (state_of seen) INCOMPLETE)
     (moves seen (A.Call ignores (C.ExchangeRunning seen)))
     (queues (A.Call ignores (C.Wait seen)) (A.Call ignores (C.ExchangeQueued seen)) seen)))
 
 -- the top of `wait`'s loop with the value seen
-unfoldable pub wait_top : Bool → ℕ → OnceStep
+unfoldable pub wait_top : Bool → ℕ → Step OnceAt
 wait_top ignores seen =
-    cond (eqb (state_of seen) COMPLETE) (ends seen 1 W.None)
-    (cond (eqb (state_of seen) POISONED && not ignores) (panics seen once_poisoned W.None)
+    cond (eqb (state_of seen) COMPLETE) (ends seen 1 H.Same W.None)
+    (cond (eqb (state_of seen) POISONED && not ignores) (panics seen P.OncePoisoned W.None)
     (queues (A.Wait ignores (Wt.Wait seen)) (A.Wait ignores (Wt.ExchangeQueued seen)) seen))
 
 -- set_state_on_drop_to: COMPLETE, or POISONED after poison() and where the closure did not return
@@ -76,8 +61,8 @@ is_panicked E.Poisoned = false
 is_panicked E.Panicked = true
 
 -- the guard's last step: the call returns, or the closure's panic goes on
-unfoldable pub finishes : Bool → ℕ → Wake → OnceStep
-finishes panicking word wake = cond panicking (panics word closure_panicked wake) (ends word 1 wake)
+unfoldable pub finishes : Bool → ℕ → Wake → Step OnceAt
+finishes panicking word wake = cond panicking (panics word P.InClosure wake) (ends word 1 H.Same wake)
 
 -- after a futex_wait, woken or not: the load at the loop's end
 unfoldable pub call_after_wait : CallAt → CallAt
@@ -95,7 +80,7 @@ wait_after_wait (Wt.ExchangeQueued seen) = Wt.ExchangeQueued seen
 wait_after_wait (Wt.Wait seen) = Wt.Load
 
 -- `call`, and CompletionGuard's `drop`
-unfoldable pub call_of : Bool → CallAt → Bool → ℕ → OnceStep
+unfoldable pub call_of : Bool → CallAt → Bool → ℕ → Step OnceAt
 call_of ignores C.Load fails word = call_top ignores word
 call_of ignores (C.ExchangeRunning seen) fails word =
     cond (exchanges word seen fails) (enters (running_with (is_queued seen)) (A.Call ignores C.Closure)) (call_top ignores word)
@@ -113,7 +98,7 @@ call_of ignores (C.Wait seen) fails word =
     cond (eqb word seen) (sleeps word) (moves word (A.Call ignores (call_after_wait (C.Wait seen))))
 
 -- `wait`
-unfoldable pub wait_of : Bool → WaitAt → Bool → ℕ → OnceStep
+unfoldable pub wait_of : Bool → WaitAt → Bool → ℕ → Step OnceAt
 wait_of ignores Wt.Load fails word = wait_top ignores word
 wait_of ignores (Wt.ExchangeQueued seen) fails word =
     cond (exchanges word (state_of seen) fails)
@@ -123,11 +108,11 @@ wait_of ignores (Wt.Wait seen) fails word =
     cond (eqb word seen) (sleeps word) (moves word (A.Wait ignores (wait_after_wait (Wt.Wait seen))))
 
 -- `is_completed`: the whole word, not the state alone
-unfoldable pub is_completed_of : ℕ → OnceStep
-is_completed_of word = ends word (cond (eqb word COMPLETE) 1 0) W.None
+unfoldable pub is_completed_of : ℕ → Step OnceAt
+is_completed_of word = ends word (cond (eqb word COMPLETE) 1 0) H.Same W.None
 
 -- one step, over the Once's word
-unfoldable pub decide_of : OnceAt → Bool → ℕ → Bool → OnceStep
+unfoldable pub decide_of : OnceAt → Bool → ℕ → Bool → Step OnceAt
 decide_of (A.Call ignores p) fails word anyone = call_of ignores p fails word
 decide_of (A.Wait ignores p) fails word anyone = wait_of ignores p fails word
 decide_of A.IsCompleted fails word anyone = is_completed_of word

@@ -11,10 +11,13 @@ use Rattle.words.specs.Parker.{PARKED, is_notified, is_parked}
 use Rattle.words.specs.RwLock as RwW
 use Rattle.words.specs.declared.Hold.{Hold}
 use Rattle.words.specs.declared.Wake.{Wake}
-use Rattle.mutex.specs.declared.LockNext.{LockNext}
-use Rattle.mutex.specs.declared.LockNext.TheVariants as LN
-use Rattle.mutex.specs.declared.UnlockNext.{UnlockNext}
-use Rattle.mutex.specs.declared.UnlockNext.TheVariants as UN
+use Rattle.words.specs.declared.Next.{Next}
+use Rattle.words.specs.declared.Next.TheVariants as Nx
+use Rattle.words.specs.declared.Step.{Step}
+use Rattle.words.specs.Steps as St
+use Rattle.words.specs.Steps.{map_step}
+use Rattle.mutex.specs.declared.LockAt.{LockAt}
+use Rattle.mutex.specs.declared.UnlockAt.{UnlockAt}
 use Rattle.mutex.specs.declared.MutexAt.{MutexAt}
 use Rattle.mutex.specs.declared.MutexAt.TheVariants as M
 use Rattle.mutex.specs.Mutex as Mx
@@ -30,7 +33,6 @@ use Rattle.rwlock.specs.declared.DowngradeAt.{DowngradeAt}
 use Rattle.rwlock.specs.declared.DowngradeAt.TheVariants as D
 use Rattle.rwlock.specs.declared.RwLockAt.{RwLockAt}
 use Rattle.rwlock.specs.declared.RwLockAt.TheVariants as X
-use Rattle.rwlock.specs.declared.RwLockStep.{RwLockStep}
 use Rattle.rwlock.specs.RwLock as Rw
 use Rattle.condvar.specs.declared.WaitAt.TheVariants as CW
 use Rattle.condvar.specs.declared.NotifyAt.TheVariants as Nf
@@ -43,18 +45,18 @@ use Rattle.once.specs.declared.WaitAt as OnWait
 use Rattle.once.specs.declared.WaitAt.TheVariants as OW
 use Rattle.once.specs.declared.OnceAt.{OnceAt}
 use Rattle.once.specs.declared.OnceAt.TheVariants as O
-use Rattle.once.specs.declared.OnceStep.{OnceStep}
 use Rattle.once.specs.Once as On
 use Rattle.thread_parking.specs.declared.ParkAt.TheVariants as P
 use Rattle.thread_parking.specs.declared.UnparkAt.TheVariants as U
 use Rattle.thread_parking.specs.declared.ParkerAt.{ParkerAt}
 use Rattle.thread_parking.specs.declared.ParkerAt.TheVariants as K
 use Rattle.thread_parking.specs.ThreadParking as Pk
+use Rattle.kept.proofs.Mutex.{LockDid, lock-moves, lock-marks, lock-sleeps, lock-takes, lock-did, UnlockDid, unlock-wakes-next, unlock-ends, unlock-wakes, unlock-did}
 use Rattle.calls.specs.declared.At.{At}
 use Rattle.calls.specs.declared.At.TheVariants as A
 use Rattle.calls.specs.declared.Plan.{Plan}
 use Rattle.calls.specs.Events.{value_of}
-use Rattle.calls.specs.Plans.{moved, slept, done, panicked, entered, mutex_plan, rwlock_plan, condvar_plan, once_plan, parker_plan, decide_of}
+use Rattle.calls.specs.Plans.{moved, slept, done, panicked, entered, mutex_plan, rwlock_plan, condvar_plan, once_plan, parker_plan, decide_of, plan_of}
 
 -- the largest number of a panic; a value of done is less
 abbrev pub MOST : ℕ
@@ -69,54 +71,56 @@ tells e = record { told = e }
 
 -- mutex: lock and unlock return nothing, which is told as 1
 module _ (m : ℕ) (word : ℕ) where
-  lock-told : (p : MutexAt) (new : ℕ) (hold : Hold) (wake : Wake) (n : LockNext) → Told (mutex_plan m p) (Mx.lock_step (record { word = new; next = n; hold = hold; wake = wake }))
-  unfolding value_of mutex_plan moved slept done Mx.lock_step
-  lock-told p new hold wake (LN.Moved q) = tells refl
-  lock-told p new hold wake LN.Asleep = tells refl
-  lock-told p new hold wake LN.Ended = tells refl
+  lock-told : (p : LockAt) (s : Step LockAt) → LockDid p word s → Told (mutex_plan m (M.Lock p)) (map_step M.Lock s)
+  unfolding value_of plan_of moved slept done
+  lock-told p s (lock-moves _ _) = tells refl
+  lock-told p s (lock-marks _) = tells refl
+  lock-told p s (lock-sleeps _ _) = tells refl
+  lock-told p s (lock-takes _ _ _ _) = tells refl
 
-  unlock-told : (p : MutexAt) (new : ℕ) (hold : Hold) (wake : Wake) (n : UnlockNext) → Told (mutex_plan m p) (Mx.unlock_step (record { word = new; next = n; hold = hold; wake = wake }))
-  unfolding value_of mutex_plan moved done Mx.unlock_step
-  unlock-told p new hold wake (UN.Moved q) = tells refl
-  unlock-told p new hold wake UN.Ended = tells refl
+  unlock-told : (p : UnlockAt) (s : Step UnlockAt) → UnlockDid word p s → Told (mutex_plan m (M.Unlock p)) (map_step M.Unlock s)
+  unfolding value_of plan_of moved done
+  unlock-told p s (unlock-wakes-next _) = tells refl
+  unlock-told p s (unlock-ends _) = tells refl
+  unlock-told p s unlock-wakes = tells refl
 
   mutex-told : (p : MutexAt) (f a : Bool) → Told (mutex_plan m p) (Mx.decide_of p f word a)
-  unfolding value_of mutex_plan done Mx.decide_of Mx.lock_step Mx.unlock_step Mx.try_lock_of
-  mutex-told (M.Lock p) f a = lock-told (M.Lock p) _ _ _ (Mx.lock_of p word).next
+  unfolding value_of plan_of done Mx.decide_of Mx.try_lock_of
+  mutex-told (M.Lock p) f a = lock-told p _ (lock-did p word)
   mutex-told M.TryLock f a = either (Told (mutex_plan m M.TryLock)) (MxW.is_unlocked word) _ _ (tells refl) (tells refl)
-  mutex-told (M.Unlock p) f a = unlock-told (M.Unlock p) _ _ _ (Mx.unlock_of p word).next
+  mutex-told (M.Unlock p) f a = unlock-told p _ (unlock-did p word)
 
 -- condvar
 module _ (c object word : ℕ) where
-  relock-told :
-      (p : CondvarAt) (mutex new : ℕ) (hold : Hold) (wake : Wake) (n : LockNext) →
-      Told (condvar_plan c p object) (Cv.relock_step mutex (record { word = new; next = n; hold = hold; wake = wake }))
-  unfolding value_of condvar_plan moved slept done Cv.relock_step
-  relock-told p mutex new hold wake (LN.Moved q) = tells refl
-  relock-told p mutex new hold wake LN.Asleep = tells refl
-  relock-told p mutex new hold wake LN.Ended = tells refl
+  relock-told : (at : CondvarAt) (mutex : ℕ) (p : LockAt) (s : Step LockAt) → LockDid p word s → Told (condvar_plan c at object) (Cv.relock_step mutex s)
+  unfolding value_of plan_of moved slept done Cv.relock_step
+  relock-told at mutex p s (lock-moves _ _) = tells refl
+  relock-told at mutex p s (lock-marks _) = tells refl
+  relock-told at mutex p s (lock-sleeps _ _) = tells refl
+  relock-told at mutex p s (lock-takes _ _ _ _) = tells refl
 
   release-told :
-      (p : CondvarAt) (mutex sequence new : ℕ) (hold : Hold) (wake : Wake) (n : UnlockNext) →
-      Told (condvar_plan c p object) (Cv.unlock_step mutex sequence (record { word = new; next = n; hold = hold; wake = wake }))
-  unfolding value_of condvar_plan moved Cv.unlock_step
-  release-told p mutex sequence new hold wake (UN.Moved q) = tells refl
-  release-told p mutex sequence new hold wake UN.Ended = tells refl
+      (at : CondvarAt) (mutex sequence : ℕ) (p : UnlockAt) (s : Step UnlockAt) → UnlockDid word p s →
+      Told (condvar_plan c at object) (Cv.unlock_step mutex sequence s)
+  unfolding value_of plan_of moved Cv.unlock_step
+  release-told at mutex sequence p s (unlock-wakes-next _) = tells refl
+  release-told at mutex sequence p s (unlock-ends _) = tells refl
+  release-told at mutex sequence p s unlock-wakes = tells refl
 
   condvar-told : (p : CondvarAt) (f a : Bool) → Told (condvar_plan c p object) (Cv.decide_of p f word a)
-  unfolding value_of condvar_plan moved slept done Cv.decide_of Cv.wait_of Cv.notify_of Cv.unlock_step Cv.relock_step Cv.moves Cv.sleeps Cv.ends
+  unfolding value_of plan_of moved slept done Cv.decide_of Cv.wait_of Cv.notify_of Cv.unlock_step Cv.relock_step
   condvar-told (Cd.Wait mutex CW.Load) f a = tells refl
   condvar-told (Cd.Wait mutex (CW.Unlock sequence p)) f a =
-      release-told (Cd.Wait mutex (CW.Unlock sequence p)) mutex sequence _ _ _ (Mx.unlock_of p word).next
+      release-told (Cd.Wait mutex (CW.Unlock sequence p)) mutex sequence p _ (unlock-did p word)
   condvar-told (Cd.Wait mutex (CW.Wait sequence)) f a =
       either (Told (condvar_plan c (Cd.Wait mutex (CW.Wait sequence)) object)) (eqb word sequence) _ _ (tells refl) (tells refl)
-  condvar-told (Cd.Wait mutex (CW.Relock p)) f a = relock-told (Cd.Wait mutex (CW.Relock p)) mutex _ _ _ (Mx.lock_of p word).next
+  condvar-told (Cd.Wait mutex (CW.Relock p)) f a = relock-told (Cd.Wait mutex (CW.Relock p)) mutex p _ (lock-did p word)
   condvar-told (Cd.Notify all Nf.Add) f a = tells refl
   condvar-told (Cd.Notify all Nf.Wake) f a = tells refl
 
 -- thread_parking
 parker-told : (p : ParkerAt) (f : Bool) (word : ℕ) (a : Bool) → Told (parker_plan p) (Pk.decide_of PARKED p f word a)
-unfolding value_of parker_plan moved slept done Pk.decide_of Pk.park_of Pk.unpark_of Pk.moves Pk.sleeps Pk.ends
+unfolding value_of plan_of moved slept done Pk.decide_of Pk.park_of Pk.unpark_of
 parker-told (K.Park P.Subtract) f word a = either (Told (parker_plan (K.Park P.Subtract))) (is_notified word) _ _ (tells refl) (tells refl)
 parker-told (K.Park P.Wait) f word a = either (Told (parker_plan (K.Park P.Wait))) (is_parked PARKED word) _ _ (tells refl) (tells refl)
 parker-told (K.Park P.Exchange) f word a = either (Told (parker_plan (K.Park P.Exchange))) (is_notified word) _ _ (tells refl) (tells refl)
@@ -125,23 +129,23 @@ parker-told (K.Unpark thread U.Wake) f word a = tells refl
 
 -- once
 module _ (o : ℕ) (at : OnceAt) (word : ℕ) where
-  abbrev OnceTold : OnceStep → Type 0
+  abbrev OnceTold : Step OnceAt → Type 0
   OnceTold = Told (once_plan o at)
 
   call-top-told : (i : Bool) → OnceTold (On.call_top i word)
-  unfolding value_of once_plan moved done panicked On.call_top On.queues On.moves On.ends On.panics
+  unfolding value_of plan_of moved done panicked On.call_top On.queues
   call-top-told i = either OnceTold (eqb (state_of word) COMPLETE) _ _ (tells refl) (either OnceTold (eqb (state_of word) POISONED && not i) _ _ (tells refl) (either OnceTold (eqb (state_of word) POISONED || eqb (state_of word) INCOMPLETE) _ _ (tells refl) (either OnceTold (is_queued word) _ _ (tells refl) (tells refl))))
 
   wait-top-told : (i : Bool) → OnceTold (On.wait_top i word)
-  unfolding value_of once_plan moved done panicked On.wait_top On.queues On.moves On.ends On.panics
+  unfolding value_of plan_of moved done panicked On.wait_top On.queues
   wait-top-told i = either OnceTold (eqb (state_of word) COMPLETE) _ _ (tells refl) (either OnceTold (eqb (state_of word) POISONED && not i) _ _ (tells refl) (either OnceTold (is_queued word) _ _ (tells refl) (tells refl)))
 
   finishes-told : (panicking : Bool) (new : ℕ) (wake : Wake) → OnceTold (On.finishes panicking new wake)
-  unfolding value_of once_plan done panicked On.finishes On.ends On.panics
+  unfolding value_of plan_of done panicked On.finishes
   finishes-told panicking new wake = either OnceTold panicking _ _ (tells refl) (tells refl)
 
   call-told : (i : Bool) (p : CallAt) (f : Bool) → OnceTold (On.call_of i p f word)
-  unfolding value_of once_plan moved slept entered On.call_of On.moves On.sleeps On.enters
+  unfolding value_of plan_of moved slept entered On.call_of
   call-told i C.Load f = call-top-told i
   call-told i (C.ExchangeRunning seen) f = either OnceTold (exchanges word seen f) _ _ (tells refl) (call-top-told i)
   call-told i C.Closure f = tells refl
@@ -151,28 +155,28 @@ module _ (o : ℕ) (at : OnceAt) (word : ℕ) where
   call-told i (C.Wait seen) f = either OnceTold (eqb word seen) _ _ (tells refl) (tells refl)
 
   wait-told : (i : Bool) (p : OnWait.WaitAt) (f : Bool) → OnceTold (On.wait_of i p f word)
-  unfolding value_of once_plan moved slept On.wait_of On.moves On.sleeps
+  unfolding value_of plan_of moved slept On.wait_of
   wait-told i OW.Load f = wait-top-told i
   wait-told i (OW.ExchangeQueued seen) f = either OnceTold (exchanges word (state_of seen) f) _ _ (tells refl) (wait-top-told i)
   wait-told i (OW.Wait seen) f = either OnceTold (eqb word seen) _ _ (tells refl) (tells refl)
 
 once-told : (o : ℕ) (p : OnceAt) (f : Bool) (word : ℕ) (a : Bool) → Told (once_plan o p) (On.decide_of p f word a)
-unfolding value_of once_plan done On.decide_of On.is_completed_of On.ends
+unfolding value_of plan_of done On.decide_of On.is_completed_of
 once-told o (O.Call i p) f word a = call-told o (O.Call i p) word i p f
 once-told o (O.Wait i p) f word a = wait-told o (O.Wait i p) word i p f
 once-told o O.IsCompleted f word a = tells (either (λ (n : ℕ). leb n MOST ≡ true) (eqb word COMPLETE) 1 0 refl refl)
 
 -- rwlock
 module _ (l : ℕ) (at : RwLockAt) (word : ℕ) where
-  abbrev LockTold : RwLockStep → Type 0
+  abbrev LockTold : Step RwLockAt → Type 0
   LockTold = Told (rwlock_plan l at)
 
   read-top-told : (slept : Bool) → LockTold (Rw.read_top slept word)
-  unfolding value_of rwlock_plan moved panicked Rw.read_top Rw.moves_with Rw.panics
+  unfolding value_of plan_of moved panicked Rw.read_top
   read-top-told slept = either LockTold (Rw.may_read slept word) _ _ (tells refl) (either LockTold (RwW.has_reached_max_readers word) _ _ (tells refl) (either LockTold (RwW.has_readers_waiting word) _ _ (tells refl) (tells refl)))
 
   read_told : (p : ReadAt) (f : Bool) → LockTold (Rw.read_of p f word)
-  unfolding value_of rwlock_plan moved slept done Rw.read_of Rw.moves_with Rw.sleeps Rw.ends
+  unfolding value_of plan_of moved slept done Rw.read_of
   read_told R.Load f = either LockTold (RwW.is_read_lockable word) _ _ (tells refl) (tells refl)
   read_told (R.Exchange seen) f = either LockTold (exchanges word seen f) _ _ (tells refl) (tells refl)
   read_told (R.Spin slept left) f = either LockTold (Rw.stops_read word || eqb left 0) _ _ (read-top-told slept) (tells refl)
@@ -181,21 +185,21 @@ module _ (l : ℕ) (at : RwLockAt) (word : ℕ) where
   read_told (R.Wait seen) f = either LockTold (eqb word seen) _ _ (tells refl) (tells refl)
 
   try-read-told : (p : TryAt) (f : Bool) → LockTold (Rw.try_read_of p f word)
-  unfolding value_of rwlock_plan moved done Rw.try_read_of Rw.try_read_top Rw.moves_with Rw.ends
+  unfolding value_of plan_of moved done Rw.try_read_of Rw.try_read_top
   try-read-told T.Load f = either LockTold (RwW.is_read_lockable word) _ _ (tells refl) (tells refl)
   try-read-told (T.Exchange seen) f = either LockTold (exchanges word seen f) _ _ (tells refl) (either LockTold (RwW.is_read_lockable word) _ _ (tells refl) (tells refl))
 
   try-write-told : (p : TryAt) (f : Bool) → LockTold (Rw.try_write_of p f word)
-  unfolding value_of rwlock_plan moved done Rw.try_write_of Rw.try_write_top Rw.moves_with Rw.ends
+  unfolding value_of plan_of moved done Rw.try_write_of Rw.try_write_top
   try-write-told T.Load f = either LockTold (RwW.is_unlocked word) _ _ (tells refl) (tells refl)
   try-write-told (T.Exchange seen) f = either LockTold (exchanges word seen f) _ _ (tells refl) (either LockTold (RwW.is_unlocked word) _ _ (tells refl) (tells refl))
 
   write-top-told : (others : Bool) → LockTold (Rw.write_top others word)
-  unfolding value_of rwlock_plan moved Rw.write_top Rw.moves_with
+  unfolding value_of plan_of moved Rw.write_top
   write-top-told others = either LockTold (RwW.is_unlocked word) _ _ (tells refl) (either LockTold (RwW.has_writers_waiting word) _ _ (tells refl) (tells refl))
 
   write-told : (p : WriteAt) (f : Bool) → LockTold (Rw.write_of p f word)
-  unfolding value_of rwlock_plan moved slept done Rw.write_of Rw.moves_with Rw.sleeps Rw.ends
+  unfolding value_of plan_of moved slept done Rw.write_of
   write-told Wr.Exchange f = either LockTold (exchanges word 0 f) _ _ (tells refl) (tells refl)
   write-told (Wr.Spin others left) f = either LockTold (Rw.stops_write word || eqb left 0) _ _ (write-top-told others) (tells refl)
   write-told (Wr.ExchangeContended others seen) f = either LockTold (exchanges word seen f) _ _ (tells refl) (write-top-told others)
@@ -205,27 +209,27 @@ module _ (l : ℕ) (at : RwLockAt) (word : ℕ) where
   write-told (Wr.Wait sequence) f = either LockTold (eqb word sequence) _ _ (tells refl) (tells refl)
 
   wake-rest-told : (writer : Bool) (seen : ℕ) (hold : Hold) → LockTold (Rw.wake_rest writer seen hold)
-  unfolding value_of rwlock_plan moved done Rw.wake_rest Rw.moves_with Rw.ends
+  unfolding value_of plan_of moved done Rw.wake_rest
   wake-rest-told writer seen hold = either LockTold (eqb seen (RwW.READERS_WAITING + RwW.WRITERS_WAITING)) _ _ (tells refl) (either LockTold (eqb seen RwW.READERS_WAITING) _ _ (tells refl) (tells refl))
 
   wake-top-told : (writer : Bool) (seen : ℕ) (hold : Hold) → LockTold (Rw.wake_top writer seen hold)
-  unfolding value_of rwlock_plan moved Rw.wake_top Rw.moves_with
+  unfolding value_of plan_of moved Rw.wake_top
   wake-top-told writer seen hold = either LockTold (eqb seen RwW.WRITERS_WAITING) _ _ (tells refl) (wake-rest-told writer seen hold)
 
   read-unlock-told : LockTold (Rw.read_unlock_of word)
-  unfolding value_of rwlock_plan done Rw.read_unlock_of Rw.ends
+  unfolding value_of plan_of done Rw.read_unlock_of
   read-unlock-told =
       let state = RwW.read_unlocked word in
       either LockTold (RwW.is_unlocked state && RwW.has_writers_waiting state) _ _ (wake-top-told false state _) (tells refl)
 
   write-unlock-told : LockTold (Rw.write_unlock_of word)
-  unfolding value_of rwlock_plan done Rw.write_unlock_of Rw.ends
+  unfolding value_of plan_of done Rw.write_unlock_of
   write-unlock-told =
       let state = RwW.write_unlocked word in
       either LockTold (RwW.has_writers_waiting state || RwW.has_readers_waiting state) _ _ (wake-top-told true state _) (tells refl)
 
   wake-told : (writer : Bool) (p : WakeAt) (a : Bool) → LockTold (Rw.wake_of writer p word a)
-  unfolding value_of rwlock_plan moved done Rw.wake_of Rw.moves_with Rw.ends
+  unfolding value_of plan_of moved done Rw.wake_of
   wake-told writer Wk.ExchangeWriters a = either LockTold (eqb word RwW.WRITERS_WAITING) _ _ (tells refl) (wake-rest-told writer word _)
   wake-told writer Wk.ExchangeBoth a = either LockTold (eqb word (RwW.READERS_WAITING + RwW.WRITERS_WAITING)) _ _ (tells refl) (tells refl)
   wake-told writer (Wk.Notify both) a = tells refl
@@ -234,7 +238,7 @@ module _ (l : ℕ) (at : RwLockAt) (word : ℕ) where
   wake-told writer Wk.WakeReaders a = tells refl
 
   downgrade-told : (p : DowngradeAt) → LockTold (Rw.downgrade_of p word)
-  unfolding value_of rwlock_plan moved done Rw.downgrade_of Rw.moves_with Rw.ends
+  unfolding value_of plan_of moved done Rw.downgrade_of
   downgrade-told D.Add = either LockTold (RwW.has_readers_waiting word) _ _ (tells refl) (tells refl)
   downgrade-told D.Subtract = tells refl
   downgrade-told D.WakeReaders = tells refl

@@ -9,11 +9,14 @@ use borrow.Author.Tests.{lt-ltb, le-ltb, ltb-true, eqb-true}
 use lib.Dec.{eqb, ltb}
 use lib.ListN.{length, get_or, replicate, length-set, length-take, length-append, length-replicate}
 use lib.Seq.{take-suc-set, take-append_seam, get_or-take, length-take-le}
+use Rattle.std.specs.Prelude.{Option}
+use Rattle.std.specs.Option.{unwrap_or}
 use Rattle.queue.specs.declared.Row.{Row}
+use Rattle.words.specs.Found.{found}
 use Rattle.queue.specs.Row.{THREADS, sleepers, passing, failing, queue_of, empty_row, row_of, pushed, push_of, removed_at, taken_out, refused, take_out_of, place_of, without_of, occ}
 use Rattle.queue.proofs.Part.{Agree, none-passing, passing-append, passing-agree, passing-none, passing-length, passing-split, passing-failing, passing-others, passing-removed, occ-append, occ-passing, occ-removed, no_longer}
 use Rattle.queue.proofs.Places.{length_removed, removed-take}
-use Rattle.queue.proofs.Search.{Found, found, found_first, nothing, place-agree, place-bound, place_none}
+use Rattle.queue.proofs.Search.{Found, found-position, is_found, found_first, nothing, position-agree, place-bound, place_none}
 
 pub empty-sleepers : sleepers empty_row ≡ []
 empty-sleepers = refl
@@ -193,7 +196,7 @@ module _ (f : ℕ → Bool) (row : Row) where
 
   pub place-of-found : row.count ≤ THREADS → place_of f row < THREADS → Found f (sleepers row) (place_of f row)
   unfolding place_of
-  place-of-found k h = found f (sleepers row) (short k) h
+  place-of-found k h = is_found f (sleepers row) (short k) h
 
   pub place-of-nothing : row.count ≤ THREADS → place_of f row ≡ THREADS → queue_of f row ≡ []
   unfolding place_of queue_of
@@ -201,11 +204,18 @@ module _ (f : ℕ → Bool) (row : Row) where
 
   pub nothing-place-of : queue_of f row ≡ [] → place_of f row ≡ THREADS
   unfolding place_of queue_of
-  nothing-place-of e = place_none f 0 (sleepers row) (none-passing f (sleepers row) e)
+  nothing-place-of e = place_none f (sleepers row) (none-passing f (sleepers row) e)
 
   pub place-of-bound : row.count ≤ THREADS → place_of f row ≤ THREADS
   unfolding place_of
   place-of-bound k = place-bound f (sleepers row) (short k)
+
+  -- a place found or not says which it is, THREADS where there is none
+  pub place-of-or : length row.places ≤ THREADS → unwrap_or (found THREADS (place_of f row)) THREADS ≡ place_of f row
+  unfolding place_of
+  place-of-or k =
+      let h : length (sleepers row) ≤ THREADS = simp length-take (omega arith) in
+      ap (λ (o : Option ℕ). unwrap_or o THREADS) (sym (found-position f (sleepers row) h))
 
   -- who is found is the head of the queue, and leaves the rest of it
   pub longest-first :
@@ -221,7 +231,7 @@ module _ (f g : ℕ → Bool) (row : Row) (h : Agree f g (sleepers row)) where
 
   pub place-of-agree : place_of f row ≡ place_of g row
   unfolding place_of
-  place-of-agree = place-agree f g 0 (sleepers row) h
+  place-of-agree = ap (λ (o : Option ℕ). unwrap_or o THREADS) (position-agree f g (sleepers row) h)
 
   pub without-agree : without_of f row ≡ without_of g row
   unfolding without_of

@@ -8,27 +8,21 @@ use native.Mathlib.Omega.{arith}
 use borrow.Author.Tests.{eq-eqb, eqb-true, eqb-false}
 use lib.Dec.{eqb}
 use lib.ListN.{length, get_or, take, drop, length-append, length-take, length-drop}
-use lib.Seq.{split_at, take-suc}
+use lib.Seq.{split_at}
+use Rattle.std.specs.List.{count_by}
+use Rattle.std.proofs.lemmas.List.Elements.{filter-append}
+use Rattle.std.proofs.lemmas.List.Filters.{length-filter_both}
+use Rattle.std.proofs.lemmas.List.Recursion.{is_count_by}
+use Rattle.std.proofs.lemmas.List.Sums.{length-filter, count_by-le-length}
 use Rattle.queue.specs.Row.{passing, failing, occ, removed_at}
-
--- a number that stands before a list, or does not
-put-append : (c : Bool) (t : ℕ) (a b : List ℕ) → cond c (t ∷ a) a ++ b ≡ cond c (t ∷ (a ++ b)) (a ++ b)
-put-append true t a b = refl
-put-append false t a b = refl
 
 pub passing-append : (f : ℕ → Bool) (a b : List ℕ) → passing f (a ++ b) ≡ passing f a ++ passing f b
 unfolding passing
-passing-append f [] b = refl
-passing-append f (t ∷ ts) b = rw (passing-append f ts b, put-append (f t) t (passing f ts) (passing f b))
+passing-append f a b = filter-append f a b
 
 pub passing-length : (f : ℕ → Bool) (l : List ℕ) → length (passing f l) ≤ length l
 unfolding passing
-passing-length f [] = omega arith
-passing-length f (t ∷ ts) = by (f t) (passing-length f ts)
-  where
-    by : (c : Bool) → length (passing f ts) ≤ length ts → length (cond c (t ∷ passing f ts) (passing f ts)) ≤ suc (length ts)
-    by true h = omega arith
-    by false h = omega arith
+passing-length f l = rw (length-filter f l) (count_by-le-length f l)
 
 -- one test after another is both at once
 pub passing-both : (f g : ℕ → Bool) (l : List ℕ) → passing g (passing f l) ≡ passing (λ (t : ℕ). f t && g t) l
@@ -157,28 +151,20 @@ passing-others f g l h =
 -- each number passes or fails
 pub passing-split : (f : ℕ → Bool) (l : List ℕ) → length l ≡ length (passing f l) + length (failing f l)
 unfolding passing
-passing-split f [] = omega arith
-passing-split f (t ∷ ts) = by (f t) (passing-split f ts)
+passing-split f l = sym (length-filter_both f (λ (t : ℕ). not (f t)) (λ t. refl) l)
+
+-- a number stands in a list as often as std counts it there
+pub occ-count : (u : ℕ) (l : List ℕ) → count_by (λ (t : ℕ). eqb t u) l ≡ occ u l
+unfolding occ
+occ-count u l = sym (is_count_by (occ u) (λ (t : ℕ). eqb t u) refl (λ t ts. by t ts (eqb u t) (eqb t u) refl refl) l)
   where
     by :
-        (c : Bool) → length ts ≡ length (passing f ts) + length (failing f ts) →
-        suc (length ts)
-        ≡ length (cond c (t ∷ passing f ts) (passing f ts)) + length (cond (not c) (t ∷ failing f ts) (failing f ts))
-    by true e = omega arith
-    by false e = omega arith
-
--- one more element, as a loop that goes up comes to it
-pub passing-turn :
-    (f : ℕ → Bool) (l : List ℕ) (i : ℕ) → i < length l →
-    passing f (take (suc i) l) ≡ passing f (take i l) ++ cond (f (get_or l i 0)) (get_or l i 0 ∷ []) []
-unfolding passing
-passing-turn f l i h = rw (take-suc l i 0 h, passing-append f (take i l) (get_or l i 0 ∷ []))
-
-pub occ-turn :
-    (u : ℕ) (l : List ℕ) (i : ℕ) → i < length l →
-    occ u (take (suc i) l) ≡ occ u (take i l) + cond (eqb u (get_or l i 0)) 1 0
-unfolding occ
-occ-turn u l i h = rw (take-suc l i 0 h, occ-append u (take i l) (get_or l i 0 ∷ [])) (omega arith)
+        (t : ℕ) (ts : List ℕ) (a b : Bool) → eqb u t ≡ a → eqb t u ≡ b →
+        cond a 1 0 + occ u ts ≡ cond b (1 + occ u ts) (occ u ts)
+    by t ts true true p q = refl
+    by t ts false false p q = zero-add (occ u ts)
+    by t ts true false p q = absurd (eqb-false t u q (sym (eqb-true u t p)))
+    by t ts false true p q = absurd (eqb-false u t p (sym (eqb-true t u q)))
 
 -- the part that is one number is as long as that number stands in the list often
 pub occ-length : (u : ℕ) (l : List ℕ) → length (passing (eqb u) l) ≡ occ u l

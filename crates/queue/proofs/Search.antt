@@ -1,16 +1,20 @@
 -- The search for the first number of a list that passes a test: what is found is the first, and nothing is found exactly if all fail. Assumes nothing.
-use mathlib.Core.Path.{◌≡◌, refl, ◌∙◌}
-use mathlib.Core.Bool.{Bool, true, false, cond}
+use mathlib.Core.Path.{◌≡◌, refl}
+use mathlib.Core.Bool.{Bool, true, false}
 use mathlib.Core.List.{List, [], ◌∷◌}
 use mathlib.Core.Logic.{◌⊎◌, inl, inr}
-use Prim.Native.Nat.{ℕ, zero, suc, ◌+◌, ◌≤◌, ◌<◌}
-use native.Mathlib.Nat.{zero-add}
-use native.Mathlib.Numerals.{add-one}
+use Prim.Native.Nat.{ℕ, zero, suc, ◌≤◌, ◌<◌}
 use native.Mathlib.Omega.{arith}
-use lib.ListN.{length, get_or, drop, drop_of_length-le}
-use lib.Seq.{drop-cons}
-use Rattle.queue.specs.Row.{THREADS, passing, removed_at, place_from}
-use Rattle.queue.proofs.Part.{Agree, AllFail, agree-head, agree-tail, none-passing}
+use borrow.Author.Tests.{ltb-true, ltb-false, lt-ltb, le-ltb}
+use lib.Dec.{ltb}
+use lib.ListN.{length, get_or}
+use Rattle.std.proofs.Common.{None, Some}
+use Rattle.std.specs.List.{position, position_or_len}
+use Rattle.std.specs.Option.{unwrap_or}
+use Rattle.std.proofs.lemmas.List.Sums.{fails_before_first, passes_at_first}
+use Rattle.words.specs.Found.{found}
+use Rattle.queue.specs.Row.{THREADS, passing, removed_at}
+use Rattle.queue.proofs.Part.{Agree, AllFail, agree-head, agree-tail, occ-place}
 
 -- p is the place of the first in l that passes f
 pub record Found (f : ℕ → Bool) (l : List ℕ) (p : ℕ) : Type 0 where
@@ -25,85 +29,82 @@ found-tail f t ts p w = record {
   before = λ j h. w.before (suc j) (omega arith);
 }
 
--- a turn of the search, at i
-module _ (f : ℕ → Bool) (l : List ℕ) (i : ℕ) where
-  turn : i < length l → place_from f i (drop i l) ≡ cond (f (get_or l i 0)) i (place_from f (i + 1) (drop (i + 1) l))
-  unfolding place_from
-  turn h = rw (drop-cons l i 0 h, add-one i)
+-- where all fail, the search comes to the end of the list
+end_of_fails : (f : ℕ → Bool) (l : List ℕ) → AllFail f l → position_or_len f l ≡ length l
+end_of_fails f [] h = refl
+end_of_fails f (t ∷ ts) h =
+    rw (agree-head f (λ (u : ℕ). false) t ts h, end_of_fails f ts (agree-tail f (λ (u : ℕ). false) t ts h)) (omega arith)
 
-  pub place-hit : i < length l → f (get_or l i 0) ≡ true → i ≡ place_from f i (drop i l)
-  place-hit h e = rw (turn h, e)
-
-  pub place-miss : i < length l → f (get_or l i 0) ≡ false → place_from f (i + 1) (drop (i + 1) l) ≡ place_from f i (drop i l)
-  place-miss h e = rw (turn h, e)
-
-  pub place_end : length l ≤ i → THREADS ≡ place_from f i (drop i l)
-  unfolding place_from
-  place_end h = rw (drop_of_length-le l h)
+-- and where it comes to the end, all fail
+fails_of_end : (f : ℕ → Bool) (l : List ℕ) → length l ≤ position_or_len f l → AllFail f l
+fails_of_end f l h u k =
+    let r : (i : ℕ) × ((i < length l) × (get_or l i 0 ≡ u)) = occ-place u l k in
+    rw r.1.1 at (fails_before_first f l r.0 0 (omega (arith, r.1.0)))
 
 -- two tests that agree on the list find the same place
-pub place-agree : (f g : ℕ → Bool) (i : ℕ) (l : List ℕ) → Agree f g l → place_from f i l ≡ place_from g i l
-unfolding place_from
-place-agree f g i [] h = refl
-place-agree f g i (t ∷ ts) h = rw (agree-head f g t ts h, place-agree f g (i + 1) ts (agree-tail f g t ts h))
-
--- the first is found
-pub place_found : (f : ℕ → Bool) (i : ℕ) (l : List ℕ) (p : ℕ) → Found f l p → place_from f i l ≡ i + p
-unfolding place_from
-place_found f i [] p w = absurd (omega (arith, w.below))
-place_found f i (t ∷ ts) zero w = rw w.passes (omega arith)
-place_found f i (t ∷ ts) (suc p) w =
-    let e : f t ≡ false = w.before zero (omega arith) in
-    let q : place_from f (i + 1) ts ≡ i + 1 + p = place_found f (i + 1) ts p (found-tail f t ts p w) in
-    rw e (omega arith)
-
--- where all fail, nothing is found
-pub place_none : (f : ℕ → Bool) (i : ℕ) (l : List ℕ) → AllFail f l → place_from f i l ≡ THREADS
-unfolding place_from
-place_none f i [] h = refl
-place_none f i (t ∷ ts) h =
-    rw (agree-head f (λ (u : ℕ). false) t ts h) (place_none f (i + 1) ts (agree-tail f (λ (u : ℕ). false) t ts h))
-
--- there is a first, or none passes
-first : (f : ℕ → Bool) (l : List ℕ) → ((p : ℕ) × Found f l p) ⊎ (passing f l ≡ [])
-unfolding passing
-first f [] = inr refl
-first f (t ∷ ts) = by (f t) refl (first f ts)
+pub position-agree : (f g : ℕ → Bool) (l : List ℕ) → Agree f g l → position f l ≡ position g l
+position-agree f g l h = rw (same f g l h)
   where
-    by :
-        (c : Bool) → f t ≡ c → ((p : ℕ) × Found f ts p) ⊎ (passing f ts ≡ []) →
-        ((p : ℕ) × Found f (t ∷ ts) p) ⊎ (cond c (t ∷ passing f ts) (passing f ts) ≡ [])
-    by true e r = inl (zero, record { below = omega arith; passes = e; before = λ j h. absurd (omega arith) })
-    by false e (inl (p, w)) = inl (suc p, record { below = omega (arith, w.below); passes = w.passes; before = earlier p w e })
-      where
-        earlier : (p : ℕ) → Found f ts p → f t ≡ false → (j : ℕ) → j < suc p → f (get_or (t ∷ ts) j 0) ≡ false
-        earlier p w e zero h = e
-        earlier p w e (suc j) h = w.before j (omega arith)
-    by false e (inr n) = inr n
+    same : (f g : ℕ → Bool) (l : List ℕ) → Agree f g l → position_or_len f l ≡ position_or_len g l
+    same f g [] h = refl
+    same f g (t ∷ ts) h = rw (agree-head f g t ts h, same f g ts (agree-tail f g t ts h))
 
--- of a list no longer than there are threads: what is found is the first
-pub found : (f : ℕ → Bool) (l : List ℕ) → length l ≤ THREADS → place_from f 0 l < THREADS → Found f l (place_from f 0 l)
-found f l k h = by (first f l)
-  where
-    by : ((p : ℕ) × Found f l p) ⊎ (passing f l ≡ []) → Found f l (place_from f 0 l)
-    by (inl (p, w)) = rw (place_found f 0 l p w ∙ zero-add p) w
-    by (inr n) = let e : place_from f 0 l ≡ THREADS = place_none f 0 l (none-passing f l n) in absurd (omega arith)
+-- the place that is found in a list, THREADS where none is
+abbrev pub place_in : (ℕ → Bool) → List ℕ → ℕ
+place_in f l = unwrap_or (position f l) THREADS
 
--- where nothing is found, all fail
-pub nothing : (f : ℕ → Bool) (l : List ℕ) → length l ≤ THREADS → place_from f 0 l ≡ THREADS → AllFail f l
-nothing f l k e = by (first f l)
-  where
-    by : ((p : ℕ) × Found f l p) ⊎ (passing f l ≡ []) → AllFail f l
-    by (inl (p, w)) = let q : place_from f 0 l ≡ 0 + p = place_found f 0 l p w in absurd (omega (arith, w.below))
-    by (inr n) = none-passing f l n
+-- where all fail, none is found
+pub place_none : (f : ℕ → Bool) (l : List ℕ) → AllFail f l → place_in f l ≡ THREADS
+place_none f l h = rw (end_of_fails f l h, le-ltb (length l) (length l) (omega arith))
 
--- and there is no other answer
-pub place-bound : (f : ℕ → Bool) (l : List ℕ) → length l ≤ THREADS → place_from f 0 l ≤ THREADS
-place-bound f l k = by (first f l)
-  where
-    by : ((p : ℕ) × Found f l p) ⊎ (passing f l ≡ []) → place_from f 0 l ≤ THREADS
-    by (inl (p, w)) = let q : place_from f 0 l ≡ 0 + p = place_found f 0 l p w in omega (arith, w.below)
-    by (inr n) = let e : place_from f 0 l ≡ THREADS = place_none f 0 l (none-passing f l n) in omega arith
+-- of a list no longer than there are threads
+module _ (f : ℕ → Bool) (l : List ℕ) (k : length l ≤ THREADS) where
+  -- the first that passes is found, or none is, and all fail
+  abbrev Searched : Type 0
+  Searched = (Found f l (place_in f l) × (position f l ≡ Some (place_in f l)) × (place_in f l < THREADS)) ⊎ (AllFail f l × (position f l ≡ None))
+
+  searched : Searched
+  searched = by (ltb (position_or_len f l) (length l)) refl
+    where
+      by :
+          (c : Bool) → ltb (position_or_len f l) (length l) ≡ c →
+          Searched
+      by true e =
+          let h : position_or_len f l < length l = ltb-true (position_or_len f l) (length l) e in
+          rw e (inl (record { below = h; passes = passes_at_first f l 0 h; before = λ j m. fails_before_first f l j 0 m }, refl, omega arith))
+      by false e = rw e (inr (fails_of_end f l (ltb-false (position_or_len f l) (length l) e), refl))
+
+  -- what is found is the first
+  pub is_found : place_in f l < THREADS → Found f l (place_in f l)
+  is_found h = by searched
+    where
+      by : Searched → Found f l (place_in f l)
+      by (inl w) = w.0
+      by (inr n) = let e : place_in f l ≡ THREADS = place_none f l n.0 in absurd (omega arith)
+
+  -- where nothing is found, all fail
+  pub nothing : place_in f l ≡ THREADS → AllFail f l
+  nothing e = by searched
+    where
+      by : Searched → AllFail f l
+      by (inl w) = absurd (omega (arith, w.2))
+      by (inr n) = n.0
+
+  -- and there is no other answer
+  pub place-bound : place_in f l ≤ THREADS
+  place-bound = by searched
+    where
+      by : Searched → place_in f l ≤ THREADS
+      by (inl w) = omega (arith, w.2)
+      by (inr n) = let e : place_in f l ≡ THREADS = place_none f l n.0 in omega arith
+
+  -- the place says what std's `position` says
+  pub found-position : position f l ≡ found THREADS (place_in f l)
+  found-position = by searched
+    where
+      by : Searched → position f l ≡ found THREADS (place_in f l)
+      by (inl w) = rw (lt-ltb (place_in f l) THREADS w.2) w.1
+      by (inr n) = rw n.1
 
 -- the first to pass is the head of the part that passes
 pub found_first : (f : ℕ → Bool) (l : List ℕ) (p : ℕ) → Found f l p → passing f l ≡ get_or l p 0 ∷ passing f (removed_at p l)

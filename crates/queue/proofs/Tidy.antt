@@ -10,9 +10,7 @@ use lib.Dec.{eqb, ltb, leb}
 use lib.ListN.{length, get_or, drop, replicate, length-take, length-drop, take-append-drop}
 use lib.Seq.{drop-append_seam, drop-set-lt, length-take-le}
 use Rattle.queue.specs.declared.Row.{Row}
-use Rattle.queue.specs.declared.Pushed.{Pushed}
-use Rattle.queue.specs.declared.Taken.{Taken}
-use Rattle.queue.specs.Row.{THREADS, sleepers, failing, row_of, empty_row, pushed, push_of, removed_at, removed, taken_out, refused, take_out_of, without_of, all_zero, is_tidy}
+use Rattle.queue.specs.Row.{Pushed, Taken, THREADS, sleepers, failing, row_of, empty_row, pushed, push_of, removed_at, removed, taken_out, refused, take_out_of, without_of, all_zero, is_tidy}
 use Rattle.queue.proofs.Part.{passing-length}
 
 -- lists of 0: made of them, one dropped, one more at the end, one taken out before them

@@ -1,8 +1,9 @@
 -- One row of the threads that sleep, by number, in the order in which they fell asleep. The queue of one word is a part of it. Assumes nothing.
-use Rattle.std.specs.Prelude.{ℕ, suc, ◌+◌, ◌-◌, Bool, true, false, cond, not, ◌&&◌, List, [], ◌∷◌, ◌++◌, eqb, ltb, leb, length, get_or, set, take, drop, replicate}
+use Rattle.std.specs.Prelude.{ℕ, suc, ◌+◌, ◌-◌, ◌<◌, ◌≡◌, Option, Some, None, Result, Ok, Err, Bool, true, false, cond, not, ◌&&◌, List, [], ◌∷◌, ◌++◌, eqb, ltb, leb, length, get_or, set, take, drop, replicate, filter, position}
+use Rattle.std.specs.List.{list_all}
+use Rattle.std.specs.Option.{unwrap_or}
 use Rattle.queue.specs.declared.Row.{Row}
-use Rattle.queue.specs.declared.Pushed.{Pushed}
-use Rattle.queue.specs.declared.Taken.{Taken}
+use Rattle.queue.specs.declared.Full.{Full}
 
 -- how many threads there are, and so how many places a row has
 abbrev pub THREADS : ℕ
@@ -14,8 +15,7 @@ sleepers row = take row.count row.places
 
 -- the part of a list that passes a test, in its order
 unfoldable pub passing : (ℕ → Bool) → List ℕ → List ℕ
-passing f [] = []
-passing f (t ∷ ts) = cond (f t) (t ∷ passing f ts) (passing f ts)
+passing f l = filter f l
 
 -- the part that fails it
 abbrev pub failing : (ℕ → Bool) → List ℕ → List ℕ
@@ -41,12 +41,21 @@ row_of l = record { places = l ++ replicate (THREADS - length l) 0; count = leng
 unfoldable pub pushed : Row → ℕ → Row
 pushed row t = record { places = set row.places row.count t; count = row.count + 1 }
 
+-- what a push leaves, and whether there was room
+pub record Pushed : Type 0 where
+  pub row : Row
+  pub ok : Bool
+
 -- a push: a full row refuses
 unfoldable pub push_of : Row → ℕ → Pushed
 push_of row t =
     cond (ltb row.count THREADS)
     (record { row = pushed row t; ok = true })
     (record { row = row; ok = false })
+
+-- what a push answers
+abbrev pub answer_of : Pushed → Result Unit Full
+answer_of a = cond a.ok (Ok tt) (Err (record {}))
 
 -- a list without the element at p
 unfoldable pub removed_at : ℕ → List ℕ → List ℕ
@@ -60,6 +69,12 @@ removed p places = removed_at p places ++ (0 ∷ [])
 unfoldable pub taken_out : Row → ℕ → Row
 taken_out row p = record { places = removed p row.places; count = row.count - 1 }
 
+-- what a taking out leaves, and who is taken out: thread 0 where nobody is
+pub record Taken : Type 0 where
+  pub row : Row
+  pub thread : ℕ
+  pub ok : Bool
+
 -- nobody is taken out
 abbrev pub refused : Row → Taken
 refused row = record { row = row; thread = 0; ok = false }
@@ -71,14 +86,17 @@ take_out_of row p =
     (record { row = taken_out row p; thread = get_or row.places p 0; ok = true })
     (refused row)
 
--- the place of the first in a list that passes a test, the list's own first being at i; THREADS where none passes
-unfoldable pub place_from : (ℕ → Bool) → ℕ → List ℕ → ℕ
-place_from f i [] = THREADS
-place_from f i (t ∷ ts) = cond (f t) i (place_from f (i + 1) ts)
+-- who is taken out, if anybody is
+abbrev pub thread_of : Taken → Option ℕ
+thread_of a = cond a.ok (Some a.thread) None
 
--- the place of the longest asleep of those who pass a test
+-- a caller's test of a thread is f: of each number that it is called with, `post` allows the answer of f alone
+abbrev pub Tests : (ℕ → Bool → Type 0) → (ℕ → Bool) → Type 0
+Tests post f = (t : ℕ) (b : Bool) → t < 256 → post t b → b ≡ f t
+
+-- the place of the longest asleep of those who pass a test; THREADS where none passes
 unfoldable pub place_of : (ℕ → Bool) → Row → ℕ
-place_of f row = place_from f 0 (sleepers row)
+place_of f row = unwrap_or (position f (sleepers row)) THREADS
 
 -- the row without those who pass a test
 unfoldable pub without_of : (ℕ → Bool) → Row → Row
@@ -91,8 +109,7 @@ occ u (t ∷ ts) = cond (eqb u t) 1 0 + occ u ts
 
 -- nothing but 0 in a list
 unfoldable pub all_zero : List ℕ → Bool
-all_zero [] = true
-all_zero (t ∷ ts) = eqb t 0 && all_zero ts
+all_zero l = list_all (λ (t : ℕ). eqb t 0) l
 
 -- the row is that of its sleepers: no more of them than places, and 0 in every place that is not used
 unfoldable pub is_tidy : Row → Bool

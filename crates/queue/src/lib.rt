@@ -1,15 +1,14 @@
 // One row of the threads that sleep, by number, in the order in which they fell asleep: the wait
-// queues of futex(2), all in one. Who sleeps on which word is for the caller to say, by a flag for each
-// thread. A row that is handed in may be any value of its type: every function has an answer for it.
-#![tactic(auto, unfolding(crate::specs::Row::is_tidy, crate::specs::Row::occ, crate::specs::Row::passing, crate::specs::Row::place_of, crate::specs::Row::push_of, crate::specs::Row::pushed, crate::specs::Row::row_of, crate::specs::Row::take_out_of, crate::specs::Row::taken_out, crate::specs::Row::without_of))]
+// queues of futex(2), all in one. Who sleeps on which word is for the caller to say, by a test of a
+// thread. A row that is handed in may be any value of its type: every method has an answer for it.
+#![tactic(auto, unfolding(crate::specs::Row::is_tidy, crate::specs::Row::passing, crate::specs::Row::push_of, crate::specs::Row::pushed, crate::specs::Row::row_of, crate::specs::Row::take_out_of, crate::specs::Row::without_of))]
 
-ghost use Rattle.std.specs.Prelude.{min, ◌<◌, cond, ◌≡◌, eqb};
-ghost use Rattle.queue.specs.Row.{THREADS, sleepers, is_wanted, empty_row, push_of, removed, refused, take_out_of, place_of, without_of, occ, is_tidy};
+ghost use Rattle.std.specs.Prelude.{ℕ, Bool, ◌≡◌};
+ghost use Rattle.words.specs.Found.{found};
+ghost use Rattle.queue.specs.Row.{THREADS, sleepers, empty_row, push_of, answer_of, take_out_of, thread_of, Tests, place_of, without_of, occ, is_tidy};
 
 // How many threads there are: so many places has a row, since no thread sleeps twice.
 pub const THREADS: usize = 32;
-
-const LAST: usize = THREADS - 1;
 
 #[derive(Clone, Copy)]
 pub struct Row {
@@ -19,215 +18,101 @@ pub struct Row {
     pub count: usize,
 }
 
+// A row that has no place left.
 #[derive(Clone, Copy)]
-pub struct Pushed {
-    pub row: Row,
-    pub ok: bool,
-}
+pub struct Full;
 
-#[derive(Clone, Copy)]
-pub struct Taken {
-    pub row: Row,
-    pub thread: u8,
-    pub ok: bool,
-}
-
-// Nobody sleeps.
-pub fn empty() -> Row
-    ensures { result ≡ empty_row }
+// Whether a thread passes a test.
+fn passes<F: Fn(u8) -> bool>(wanted: &F, thread: u8) -> bool
+    requires { F.IsAlwaysCallable wanted.now }
+    ensures { (f : ℕ → Bool) → Tests (F.post wanted.now) f → result ≡ f thread }
 {
-    Row {
-        places: [0; THREADS],
-        count: 0,
-    }
+    wanted(thread)
 }
 
-// A thread falls asleep: its place is behind all the others. A full row refuses.
-pub fn push(row: Row, thread: u8) -> Pushed
-    ensures { result ≡ push_of row thread }
-{
-    let n = row.count;
-    if n < THREADS {
-        let mut places = row.places;
-        places[n] = thread;
-        return Pushed {
-            row: Row {
-                places: places,
-                count: n + 1,
-            },
-            ok: true,
-        };
-    }
-    Pushed {
-        row: row,
-        ok: false,
-    }
-}
-
-// The places without one: those behind it move up, and 0 comes in at the end.
-fn removed(places: [u8; THREADS], place: usize) -> [u8; THREADS]
-    requires { place < THREADS }
-    ensures { result ≡ removed place places }
-{
-    let mut rest = places;
-    let mut i = place;
-    while i < LAST {
-        let next = rest[i + 1];
-        rest[i] = next;
-        i = i + 1;
-    }
-    rest[LAST] = 0;
-    rest
-}
-
-fn refused(row: Row) -> Taken
-    ensures { result ≡ refused row }
-{
-    Taken {
-        row: row,
-        thread: 0,
-        ok: false,
-    }
-}
-
-// A sleeper leaves the row, from any place: the first of one word's queue may stand behind others. A
-// place where nobody sleeps refuses.
-pub fn take_out(row: Row, place: usize) -> Taken
-    ensures { result ≡ take_out_of row place }
-{
-    let n = row.count;
-    if n <= place {
-        return refused(row);
-    }
-    if THREADS <= place {
-        return refused(row);
-    }
-    let places = row.places;
-    let thread = places[place];
-    let rest = removed(places, place);
-    Taken {
-        row: Row {
-            places: rest,
-            count: n - 1,
-        },
-        thread: thread,
-        ok: true,
-    }
-}
-
-// A thread's flag. A number that is no thread's is not wanted.
-fn is_wanted(wanted: [bool; THREADS], thread: u8) -> bool
-    ensures { result ≡ is_wanted wanted thread }
-{
-    let t = thread as usize;
-    if t < THREADS {
-        return wanted[t];
-    }
-    false
-}
-
-// How many places are used. A count past the last place means all.
-fn used(count: usize) -> usize
-    ensures { result ≡ min count THREADS }
-{
-    if count < THREADS {
-        return count;
-    }
-    THREADS
-}
-
-// The place of the longest asleep of those wanted, THREADS where there is none.
-pub fn place_of(row: Row, wanted: [bool; THREADS]) -> usize
-    ensures { result ≡ place_of (is_wanted wanted) row }
-{
-    let places = row.places;
-    let count = row.count;
-    let n = used(count);
-    let mut place: usize = 0;
-    while place < n {
-        let thread = places[place];
-        let hit = is_wanted(wanted, thread);
-        if hit {
-            return place;
+impl Row {
+    // Nobody sleeps.
+    pub fn new() -> Row
+        ensures { result ≡ empty_row }
+    {
+        Row {
+            places: [0; THREADS],
+            count: 0,
         }
-        place = place + 1;
     }
-    THREADS
-}
 
-fn push_unless(hit: bool, row: Row, thread: u8) -> Row
-    ensures { result ≡ cond hit row (push_of row thread).row }
-{
-    if hit {
-        return row;
+    // Who sleeps, the longest asleep first. A count past the last place means all.
+    fn sleepers(&self) -> &[u8]
+        ensures { result.now ≡ sleepers self.now }
+    {
+        &self.places[..self.count.min(THREADS)]
     }
-    let pushed = push(row, thread);
-    pushed.row
-}
 
-// The row without those wanted: the others keep their order.
-pub fn without(row: Row, wanted: [bool; THREADS]) -> Row
-    ensures { result ≡ without_of (is_wanted wanted) row }
-{
-    let places = row.places;
-    let count = row.count;
-    let n = used(count);
-    let mut rest = empty();
-    let mut i: usize = 0;
-    while i < n {
-        let thread = places[i];
-        let hit = is_wanted(wanted, thread);
-        rest = push_unless(hit, rest, thread);
-        i = i + 1;
-    }
-    rest
-}
-
-// 1 where both are the same, else 0.
-fn same(a: u8, b: u8) -> usize
-    ensures { result ≡ cond (eqb a b) 1 0 }
-{
-    let equal = a == b;
-    if equal {
-        return 1;
-    }
-    0
-}
-
-// How often a thread stands in the row.
-pub fn occurrences(row: Row, thread: u8) -> usize
-    ensures { result ≡ occ thread (sleepers row) }
-{
-    let places = row.places;
-    let count = row.count;
-    let n = used(count);
-    let mut found: usize = 0;
-    let mut i: usize = 0;
-    while i < n {
-        let other = places[i];
-        let one = same(thread, other);
-        found = found + one;
-        i = i + 1;
-    }
-    found
-}
-
-// Whether the row is the one that its sleepers have: two such rows with the same sleepers are equal.
-pub fn is_tidy(row: Row) -> bool
-    ensures { result ≡ is_tidy row }
-{
-    let places = row.places;
-    let count = row.count;
-    if THREADS < count {
-        return false;
-    }
-    let mut i = count;
-    while i < THREADS {
-        let thread = places[i];
-        if thread != 0 {
-            return false;
+    // A thread falls asleep: its place is behind all the others. A full row refuses.
+    pub fn push(&mut self, thread: u8) -> Result<(), Full>
+        ensures row { self.new ≡ (push_of self.old thread).row }
+        ensures value { result ≡ answer_of (push_of self.old thread) }
+    {
+        if self.count >= THREADS {
+            return Err(Full);
         }
-        i = i + 1;
+        self.places[self.count] = thread;
+        self.count += 1;
+        Ok(())
     }
-    true
+
+    // A sleeper leaves the row, from any place: the first of one word's queue may stand behind others. Those
+    // behind it move up, and 0 comes in at the end. A place where nobody sleeps refuses.
+    pub fn take_out(&mut self, place: usize) -> Option<u8>
+        ensures row { self.new ≡ (take_out_of self.old place).row }
+        ensures value { result ≡ thread_of (take_out_of self.old place) }
+    {
+        let thread = *self.sleepers().get(place)?;
+        self.places.copy_within(place + 1.., place);
+        self.places[THREADS - 1] = 0;
+        self.count -= 1;
+        Some(thread)
+    }
+
+    // The place of the longest asleep of those wanted.
+    pub fn place_of<F: Fn(u8) -> bool>(&self, wanted: F) -> Option<usize>
+        requires { F.IsAlwaysCallable wanted }
+        ensures { (f : ℕ → Bool) → Tests (F.post wanted) f → result ≡ found THREADS (place_of f self.now) }
+    {
+        self.sleepers()
+            .iter()
+            .position(|thread| passes(&wanted, *thread))
+    }
+
+    // The row without those wanted: the others keep their order.
+    pub fn without<F: Fn(u8) -> bool>(self, wanted: F) -> Row
+        requires { F.IsAlwaysCallable wanted }
+        ensures { (f : ℕ → Bool) → Tests (F.post wanted) f → result ≡ without_of f self }
+    {
+        let mut rest = Row::new();
+        for thread in self.sleepers() {
+            if !passes(&wanted, *thread) {
+                rest.places[rest.count] = *thread;
+                rest.count += 1;
+            }
+        }
+        rest
+    }
+
+    // How often a thread stands in the row.
+    pub fn occurrences(&self, thread: u8) -> usize
+        ensures { result ≡ occ thread (sleepers self.now) }
+    {
+        self.sleepers()
+            .iter()
+            .filter(|other| **other == thread)
+            .count()
+    }
+
+    // Whether the row is the one that its sleepers have: two such rows with the same sleepers are equal.
+    pub fn is_tidy(&self) -> bool
+        ensures { result ≡ is_tidy self.now }
+    {
+        self.count <= THREADS && self.places[self.count..].iter().all(|thread| *thread == 0)
+    }
 }

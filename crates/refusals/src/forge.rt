@@ -1,94 +1,90 @@
-// Worlds made by hand: each function changes one thing and asks for nothing else to agree with it. Numbers that
+// Worlds made by hand: each method changes one thing and asks for nothing else to agree with it. Numbers that
 // are past the end change nothing.
-use calls::{At, RWLOCKS, Thread, WORDS};
+use calls::{At, Thread};
 use queue::{Row, THREADS};
 use words::Kind;
-use world::{LOCK_HOLDS, MUTEX_HOLDS, World};
+use world::World;
 
 // A fresh world with or without the note that an act other than set was accepted.
-pub fn noted(started: bool) -> World {
-    let mut w = world::fresh();
-    w.started = started;
-    w
-}
-
-pub fn word(w: World, kind: Kind, object: u8, value: u32) -> World {
-    let mut v = w;
-    let k = calls::word_number(kind, object);
-    if k < WORDS {
-        v.words[k] = value;
+pub fn fresh(started: bool) -> World {
+    World {
+        started,
+        ..world::fresh()
     }
-    v
 }
 
-// Thread t's record; the row is left alone.
-pub fn stands(w: World, t: u8, at: At, asleep: bool) -> World {
-    let th = Thread {
-        at: at,
-        asleep: asleep,
-    };
-    let mut v = w;
-    let i = t as usize;
-    if i < THREADS {
-        v.threads[i] = th;
+fn put<T: Copy>(row: &mut [T], i: usize, value: T) {
+    if let Some(place) = row.get_mut(i) {
+        *place = value;
     }
-    v
 }
 
-pub fn row(w: World, places: [u8; THREADS], count: usize) -> World {
-    let sleepers = Row {
-        places: places,
-        count: count,
-    };
-    let mut v = w;
-    v.sleepers = sleepers;
-    v
+// A hold on a mutex, so many read holds on an RwLock, or a write hold on one.
+#[derive(Clone, Copy)]
+pub enum Hold {
+    Mutex,
+    Reads(u32),
+    Write,
 }
 
-// Thread 0 sleeps there, alone in the row.
-pub fn sleeps(w: World, at: At) -> World {
-    row(stands(w, 0, at, true), [0; THREADS], 1)
+// So many mutexes and so many RwLocks have holds, thread by thread.
+const OBJECTS: usize = 4;
+
+pub trait Forge {
+    fn word(self, kind: Kind, object: u8, value: u32) -> Self;
+
+    // Thread t stands there, awake.
+    fn stands(self, t: u8, at: At) -> Self;
+
+    // Thread 0 sleeps there, alone in the row.
+    fn sleeps(self, at: At) -> Self;
+
+    fn row(self, places: [u8; THREADS], count: usize) -> Self;
+
+    // Thread t has this hold of the mutex or RwLock of that number.
+    fn holds(self, t: u8, object: u8, hold: Hold) -> Self;
+
+    // So many reads of an RwLock that nobody will free.
+    fn forgotten(self, lock: u8, count: u32) -> Self;
 }
 
-fn slot(t: u8, object: u8) -> usize {
-    t as usize * 4 + object as usize
-}
-
-// The hold of a thread on a mutex.
-pub fn locked(w: World, t: u8, mutex: u8) -> World {
-    let mut v = w;
-    let i = slot(t, mutex);
-    if i < MUTEX_HOLDS {
-        v.locked[i] = true;
+impl Forge for World {
+    fn word(mut self, kind: Kind, object: u8, value: u32) -> World {
+        if let Some(k) = calls::word_number(kind, object) {
+            put(&mut self.words, k, value);
+        }
+        self
     }
-    v
-}
 
-// The write hold of a thread on an RwLock.
-pub fn written(w: World, t: u8, lock: u8) -> World {
-    let mut v = w;
-    let i = slot(t, lock);
-    if i < LOCK_HOLDS {
-        v.written[i] = true;
+    fn stands(mut self, t: u8, at: At) -> World {
+        put(&mut self.threads, t as usize, Thread { at, asleep: false });
+        self
     }
-    v
-}
 
-// The read holds of a thread on an RwLock.
-pub fn read(w: World, t: u8, lock: u8, count: u32) -> World {
-    let mut v = w;
-    let i = slot(t, lock);
-    if i < LOCK_HOLDS {
-        v.reads[i] = count;
+    fn sleeps(mut self, at: At) -> World {
+        self.threads[0] = Thread { at, asleep: true };
+        self.row([0; THREADS], 1)
     }
-    v
-}
 
-pub fn forgotten(w: World, lock: u8, count: u32) -> World {
-    let mut v = w;
-    let i = lock as usize;
-    if i < RWLOCKS {
-        v.forgotten[i] = count;
+    fn row(self, places: [u8; THREADS], count: usize) -> World {
+        World {
+            sleepers: Row { places, count },
+            ..self
+        }
     }
-    v
+
+    fn holds(mut self, t: u8, object: u8, hold: Hold) -> World {
+        let i = t as usize * OBJECTS + object as usize;
+        match hold {
+            Hold::Mutex => put(&mut self.locked, i, true),
+            Hold::Reads(count) => put(&mut self.reads, i, count),
+            Hold::Write => put(&mut self.written, i, true),
+        }
+        self
+    }
+
+    fn forgotten(mut self, lock: u8, count: u32) -> World {
+        put(&mut self.forgotten, lock as usize, count);
+        self
+    }
 }

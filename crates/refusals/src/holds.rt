@@ -1,68 +1,66 @@
-// Worlds by what is held in them.
-use crate::forge;
+// What is held in a world.
+use crate::forge::{self, Forge, Hold};
+use crate::records::{Record, Setting};
+use crate::worlds;
+use calls::Call;
+use std::fmt;
 use words::Kind;
 use world::World;
 
-// What thread 0 holds, by the numbers of the terms.
-pub const NOTHING_HELD: u32 = 0;
+// What thread 0 holds, or another, or nobody.
+#[derive(Clone, Copy)]
+pub enum Holding {
+    NothingHeld,
+    MutexHeld(u8),
+    MutexHeldByAnother(u8),
+    ReadHeld,
+    ReadForgotten,
+    WriteHeld,
+}
 
-pub const MUTEX_0_HELD: u32 = 1;
-
-pub const MUTEX_0_HELD_BY_ANOTHER: u32 = 2;
-
-pub const MUTEX_1_HELD: u32 = 3;
-
-pub const MUTEX_3_HELD: u32 = 4;
-
-pub const A_READ_HELD: u32 = 5;
-
-pub const A_READ_FORGOTTEN: u32 = 6;
-
-pub const A_WRITE_HELD: u32 = 7;
-
-fn written_by(w: World, lock: u8, writers: u32) -> World {
-    if writers == 0 {
-        return w;
+impl Holding {
+    // The world by hand, with the note that an act other than set was accepted.
+    pub fn forged(self) -> World {
+        let w = forge::fresh(true);
+        match self {
+            Holding::NothingHeld => w,
+            Holding::MutexHeld(mutex) => w.word(Kind::Mutex, mutex, 1).holds(0, mutex, Hold::Mutex),
+            Holding::MutexHeldByAnother(mutex) => w
+                .word(Kind::Mutex, mutex, 1)
+                .holds(1, mutex, Hold::Mutex),
+            Holding::ReadHeld => w.word(Kind::RwLock, 0, 1).holds(0, 0, Hold::Reads(1)),
+            Holding::ReadForgotten => w.word(Kind::RwLock, 0, 1).forgotten(0, 1),
+            Holding::WriteHeld => w
+                .word(Kind::RwLock, 0, 0x3FFF_FFFF)
+                .holds(0, 0, Hold::Write),
+        }
     }
-    let v = forge::written(w, 0, lock);
-    if writers == 1 {
-        return v;
+
+    // The world that acts lead to.
+    pub fn reached(self) -> World {
+        match self {
+            Holding::NothingHeld => world::fresh(),
+            Holding::MutexHeld(mutex) => worlds::begun(Call::Lock, 0, mutex, 1),
+            Holding::MutexHeldByAnother(mutex) => worlds::begun(Call::Lock, 1, mutex, 1),
+            Holding::ReadHeld => worlds::begun(Call::Read, 0, 0, 2),
+            Holding::ReadForgotten => worlds::after(
+                world::fresh(),
+                Record::set(Setting::ForgottenReads, 0, 1),
+            ),
+            Holding::WriteHeld => worlds::begun(Call::Write, 0, 0, 1),
+        }
     }
-    forge::written(v, 1, lock)
 }
 
-// An RwLock's state, its forgotten reads, the reads of the first thread and of the last, and how many write: the
-// first thread, then the second.
-pub fn rwlock(
-    started: bool,
-    lock: u8,
-    state: u32,
-    forgotten: u32,
-    first: u32,
-    last: u32,
-    writers: u32,
-) -> World {
-    let w = forge::word(forge::noted(started), Kind::RwLock, lock, state);
-    let w = forge::forgotten(w, lock, forgotten);
-    let w = forge::read(w, 0, lock, first);
-    let w = forge::read(w, 31, lock, last);
-    written_by(w, lock, writers)
-}
-
-fn mutex(thread: u8, mutex: u8) -> World {
-    let w = forge::word(forge::noted(true), Kind::Mutex, mutex, 1);
-    forge::locked(w, thread, mutex)
-}
-
-pub fn held(hold: u32) -> World {
-    match hold {
-        NOTHING_HELD => forge::noted(true),
-        MUTEX_0_HELD => mutex(0, 0),
-        MUTEX_0_HELD_BY_ANOTHER => mutex(1, 0),
-        MUTEX_1_HELD => mutex(0, 1),
-        MUTEX_3_HELD => mutex(0, 3),
-        A_READ_HELD => rwlock(true, 0, 1, 0, 1, 0, 0),
-        A_READ_FORGOTTEN => rwlock(true, 0, 1, 1, 0, 0, 0),
-        _ => rwlock(true, 0, 0x3FFF_FFFF, 0, 0, 0, 1),
+impl fmt::Display for Holding {
+    fn fmt<W: fmt::Write>(&self, f: &mut fmt::Formatter<W>) -> fmt::Result {
+        match self {
+            Holding::NothingHeld => write!(f, "nothing held"),
+            Holding::MutexHeld(mutex) => write!(f, "mutex {mutex} held"),
+            Holding::MutexHeldByAnother(mutex) => write!(f, "mutex {mutex} held by another"),
+            Holding::ReadHeld => write!(f, "a read held"),
+            Holding::ReadForgotten => write!(f, "a read forgotten"),
+            Holding::WriteHeld => write!(f, "a write held"),
+        }
     }
 }

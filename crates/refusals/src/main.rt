@@ -3,20 +3,19 @@
 // this program.
 #![tactic(auto)]
 
-mod cases;
+mod calling;
 mod forge;
 mod holds;
+mod lines;
 mod names;
 mod needs;
 mod numbers;
 mod places;
+mod records;
 mod refused;
-mod report;
-mod rows;
+mod shown;
 mod sleepers;
 mod starts;
-mod terms;
-mod text;
 mod values;
 mod words_held;
 mod worlds;

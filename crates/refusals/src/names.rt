@@ -1,31 +1,35 @@
 // Clause 1 of soundness: every index exists. Objects go to 3, threads to 31.
-use crate::{holds, rows, terms};
+use crate::calling::Start;
+use crate::holds::Holding::*;
+use crate::lines;
+use crate::records::Record;
+use calls::Call::*;
 use std::io;
 
-const CASES: [[u32; 4]; 21] = [
-    [0, 3, 0, holds::NOTHING_HELD],
-    [0, 4, 0, holds::NOTHING_HELD],
-    [0, 255, 0, holds::NOTHING_HELD],
-    [2, 4, 0, holds::MUTEX_0_HELD],
-    [3, 3, 0, holds::NOTHING_HELD],
-    [3, 4, 0, holds::NOTHING_HELD],
-    [3, 255, 0, holds::NOTHING_HELD],
-    [5, 4, 0, holds::A_READ_HELD],
-    [11, 3, 0, holds::NOTHING_HELD],
-    [11, 4, 0, holds::NOTHING_HELD],
-    [11, 255, 0, holds::NOTHING_HELD],
-    [10, 3, 3, holds::MUTEX_3_HELD],
-    [10, 4, 3, holds::MUTEX_3_HELD],
-    [10, 3, 4, holds::MUTEX_3_HELD],
-    [10, 3, 255, holds::MUTEX_3_HELD],
-    [17, 3, 0, holds::NOTHING_HELD],
-    [17, 4, 0, holds::NOTHING_HELD],
-    [17, 255, 0, holds::NOTHING_HELD],
-    [19, 31, 0, holds::NOTHING_HELD],
-    [19, 32, 0, holds::NOTHING_HELD],
-    [19, 255, 0, holds::NOTHING_HELD],
+const CASES: [Start; 21] = [
+    Start(Lock, 3, None, NothingHeld),
+    Start(Lock, 4, None, NothingHeld),
+    Start(Lock, 255, None, NothingHeld),
+    Start(Unlock, 4, None, MutexHeld(0)),
+    Start(Read, 3, None, NothingHeld),
+    Start(Read, 4, None, NothingHeld),
+    Start(Read, 255, None, NothingHeld),
+    Start(ReadUnlock, 4, None, ReadHeld),
+    Start(NotifyOne, 3, None, NothingHeld),
+    Start(NotifyOne, 4, None, NothingHeld),
+    Start(NotifyOne, 255, None, NothingHeld),
+    Start(CondvarWait, 3, Some(3), MutexHeld(3)),
+    Start(CondvarWait, 4, Some(3), MutexHeld(3)),
+    Start(CondvarWait, 3, Some(4), MutexHeld(3)),
+    Start(CondvarWait, 3, Some(255), MutexHeld(3)),
+    Start(IsCompleted, 3, None, NothingHeld),
+    Start(IsCompleted, 4, None, NothingHeld),
+    Start(IsCompleted, 255, None, NothingHeld),
+    Start(Unpark, 31, None, NothingHeld),
+    Start(Unpark, 32, None, NothingHeld),
+    Start(Unpark, 255, None, NothingHeld),
 ];
 
 pub fn lines(rt: &impl Print) -> io::Result<()> {
-    rows::calls(rt, terms::NAMES, &CASES)
+    lines::print(rt, "names", &CASES, |case| (case.world(), Record::step(0)))
 }

@@ -1,37 +1,43 @@
 // Clause 7 of soundness: a thread still before the operation that frees or downgrades has that hold.
-use crate::{holds, places, rows, terms};
+use crate::calling::Start;
+use crate::holds::Holding::*;
+use crate::lines;
+use crate::places::Inside;
+use crate::places::Place::*;
+use crate::records::Record;
+use calls::Call::*;
 use std::io;
 
-const STARTS: [[u32; 4]; 18] = [
-    [2, 0, 0, holds::MUTEX_0_HELD],
-    [2, 0, 0, holds::NOTHING_HELD],
-    [2, 0, 0, holds::MUTEX_0_HELD_BY_ANOTHER],
-    [2, 0, 0, holds::MUTEX_1_HELD],
-    [5, 0, 0, holds::A_READ_HELD],
-    [5, 0, 0, holds::NOTHING_HELD],
-    [5, 0, 0, holds::A_READ_FORGOTTEN],
-    [5, 0, 0, holds::A_WRITE_HELD],
-    [8, 0, 0, holds::A_WRITE_HELD],
-    [8, 0, 0, holds::NOTHING_HELD],
-    [8, 0, 0, holds::A_READ_HELD],
-    [9, 0, 0, holds::A_WRITE_HELD],
-    [9, 0, 0, holds::NOTHING_HELD],
-    [9, 0, 0, holds::A_READ_HELD],
-    [10, 0, 0, holds::MUTEX_0_HELD],
-    [10, 0, 0, holds::NOTHING_HELD],
-    [10, 0, 0, holds::MUTEX_1_HELD],
-    [10, 0, 1, holds::MUTEX_1_HELD],
+const STARTS: [Start; 18] = [
+    Start(Unlock, 0, None, MutexHeld(0)),
+    Start(Unlock, 0, None, NothingHeld),
+    Start(Unlock, 0, None, MutexHeldByAnother(0)),
+    Start(Unlock, 0, None, MutexHeld(1)),
+    Start(ReadUnlock, 0, None, ReadHeld),
+    Start(ReadUnlock, 0, None, NothingHeld),
+    Start(ReadUnlock, 0, None, ReadForgotten),
+    Start(ReadUnlock, 0, None, WriteHeld),
+    Start(WriteUnlock, 0, None, WriteHeld),
+    Start(WriteUnlock, 0, None, NothingHeld),
+    Start(WriteUnlock, 0, None, ReadHeld),
+    Start(Downgrade, 0, None, WriteHeld),
+    Start(Downgrade, 0, None, NothingHeld),
+    Start(Downgrade, 0, None, ReadHeld),
+    Start(CondvarWait, 0, Some(0), MutexHeld(0)),
+    Start(CondvarWait, 0, Some(0), NothingHeld),
+    Start(CondvarWait, 0, Some(0), MutexHeld(1)),
+    Start(CondvarWait, 0, Some(1), MutexHeld(1)),
 ];
 
 // Further on in the same calls, with nothing held: only a Condvar wait before its swap needs the hold.
-const AFTER: [[u32; 2]; 4] = [
-    [places::UNLOCK_WAKES, 1],
-    [places::CONDVAR_WAIT_UNLOCKS_FROM, 0],
-    [places::CONDVAR_WAIT_WAITS_ON, 0],
-    [places::DOWNGRADE_SUBTRACTS, 0],
+const AFTER: [Inside; 4] = [
+    Inside(UnlockWakes, 1),
+    Inside(CondvarWaitUnlocksFrom, 0),
+    Inside(CondvarWaitWaitsOn, 0),
+    Inside(DowngradeSubtracts, 0),
 ];
 
 pub fn lines(rt: &impl Print) -> io::Result<()> {
-    rows::calls(rt, terms::NEEDS, &STARTS)?;
-    rows::places(rt, terms::AFTER, 0, &AFTER)
+    lines::print(rt, "needs", &STARTS, |case| (case.world(), Record::step(0)))?;
+    lines::print(rt, "after", &AFTER, |case| (case.awake(), Record::step(0)))
 }

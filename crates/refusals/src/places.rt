@@ -1,259 +1,237 @@
-// Positions inside calls on object 0, with the value that they carry: `place` in the order of their terms.
+// Positions inside calls on object 0, with the value that they carry.
+use crate::forge::{self, Forge};
+use crate::shown::Number;
 use calls::At;
 use condvar::CondvarAt;
 use mutex::{LockAt, MutexAt, UnlockAt};
 use once::{CallAt, OnceAt};
 use rwlock::{DowngradeAt, ReadAt, RwLockAt, TryAt, WriteAt};
+use std::fmt;
 use thread_parking::{ParkAt, ParkerAt};
+use world::World;
 
-// The positions, by the numbers of their terms.
-pub const LOCK_SPINS: u32 = 0;
+#[derive(Clone, Copy)]
+pub enum Place {
+    LockSpins,
+    LockSpinsAgain,
+    LockWaitsOn,
+    UnlockWakes,
+    CondvarWaitUnlocksFrom,
+    CondvarWaitWaitsOn,
+    CondvarWaitLockSpins,
+    CondvarWaitLockSpinsAgain,
+    CondvarWaitLockWaitsOn,
+    ReadSpins,
+    ReadSpinsAgain,
+    ReadLocks,
+    ReadLocksAfterSpin,
+    ReadLocksAfterSleep,
+    ReadFlags,
+    ReadFlagsAfterSleep,
+    ReadWaitsOn,
+    TryReadLocks,
+    TryWriteLocks,
+    WriteSpins,
+    WriteSpinsAgain,
+    WriteLocks,
+    WriteFlags,
+    WriteWaitsOn,
+    DowngradeSubtracts,
+    OnceCallRunsFrom,
+    OnceCallForceRunsFrom,
+    OnceCallQueuesFrom,
+    OnceCallWaitsOn,
+    OnceWaitQueuesFrom,
+    OnceWaitForceQueuesFrom,
+    OnceWaitWaitsOn,
+    InClosureOf,
+    Idle,
+    ParkWaitsOn,
+    ParkExchanges,
+}
 
-pub const LOCK_SPINS_AGAIN: u32 = 1;
-
-pub const CONDVAR_WAIT_LOCK_SPINS: u32 = 2;
-
-pub const CONDVAR_WAIT_LOCK_SPINS_AGAIN: u32 = 3;
-
-pub const LOCK_WAITS_ON: u32 = 4;
-
-pub const CONDVAR_WAIT_WAITS_ON: u32 = 5;
-
-pub const CONDVAR_WAIT_LOCK_WAITS_ON: u32 = 6;
-
-pub const UNLOCK_WAKES: u32 = 7;
-
-pub const READ_SPINS: u32 = 8;
-
-pub const READ_SPINS_AGAIN: u32 = 9;
-
-pub const READ_LOCKS: u32 = 10;
-
-pub const READ_LOCKS_AFTER_A_SPIN: u32 = 11;
-
-pub const READ_LOCKS_AFTER_A_SLEEP: u32 = 12;
-
-pub const READ_FLAGS: u32 = 13;
-
-pub const READ_FLAGS_AFTER_A_SLEEP: u32 = 14;
-
-pub const READ_WAITS_ON: u32 = 15;
-
-pub const TRY_READ_LOCKS: u32 = 16;
-
-pub const TRY_WRITE_LOCKS: u32 = 17;
-
-pub const WRITE_SPINS: u32 = 18;
-
-pub const WRITE_SPINS_AGAIN: u32 = 19;
-
-pub const WRITE_LOCKS: u32 = 20;
-
-pub const WRITE_FLAGS: u32 = 21;
-
-pub const WRITE_WAITS_ON: u32 = 22;
-
-pub const DOWNGRADE_SUBTRACTS: u32 = 23;
-
-pub const ONCE_CALL_RUNS_FROM: u32 = 24;
-
-pub const ONCE_CALL_POISON_IGNORED_RUNS_FROM: u32 = 25;
-
-pub const ONCE_CALL_QUEUES_FROM: u32 = 26;
-
-pub const ONCE_CALL_WAITS_ON: u32 = 27;
-
-pub const ONCE_WAIT_QUEUES_FROM: u32 = 28;
-
-pub const ONCE_WAIT_POISON_IGNORED_QUEUES_FROM: u32 = 29;
-
-pub const ONCE_WAIT_WAITS_ON: u32 = 30;
-
-pub const IN_A_CLOSURE_OF: u32 = 31;
-
-pub const IDLE: u32 = 32;
-
-pub const PARK_WAITS_ON: u32 = 33;
-
-pub const PARK_EXCHANGES: u32 = 34;
-
-pub const CONDVAR_WAIT_UNLOCKS_FROM: u32 = 35;
-
-// The low byte.
-pub fn byte(value: u32) -> u8 {
-    (value % 256) as u8
+impl fmt::Display for Place {
+    fn fmt<W: fmt::Write>(&self, f: &mut fmt::Formatter<W>) -> fmt::Result {
+        f.write_str(match self {
+            Place::LockSpins => "lock spins",
+            Place::LockSpinsAgain => "lock spins again",
+            Place::LockWaitsOn => "lock waits on",
+            Place::UnlockWakes => "unlock wakes",
+            Place::CondvarWaitUnlocksFrom => "Condvar wait unlocks from",
+            Place::CondvarWaitWaitsOn => "Condvar wait waits on",
+            Place::CondvarWaitLockSpins => "Condvar wait's lock spins",
+            Place::CondvarWaitLockSpinsAgain => "Condvar wait's lock spins again",
+            Place::CondvarWaitLockWaitsOn => "Condvar wait's lock waits on",
+            Place::ReadSpins => "read spins",
+            Place::ReadSpinsAgain => "read spins again",
+            Place::ReadLocks => "read locks",
+            Place::ReadLocksAfterSpin => "read locks after a spin",
+            Place::ReadLocksAfterSleep => "read locks after a sleep",
+            Place::ReadFlags => "read flags",
+            Place::ReadFlagsAfterSleep => "read flags after a sleep",
+            Place::ReadWaitsOn => "read waits on",
+            Place::TryReadLocks => "try_read locks",
+            Place::TryWriteLocks => "try_write locks",
+            Place::WriteSpins => "write spins",
+            Place::WriteSpinsAgain => "write spins again",
+            Place::WriteLocks => "write locks",
+            Place::WriteFlags => "write flags",
+            Place::WriteWaitsOn => "write waits on",
+            Place::DowngradeSubtracts => "downgrade subtracts",
+            Place::OnceCallRunsFrom => "Once call runs from",
+            Place::OnceCallForceRunsFrom => "Once call, poison ignored, runs from",
+            Place::OnceCallQueuesFrom => "Once call queues from",
+            Place::OnceCallWaitsOn => "Once call waits on",
+            Place::OnceWaitQueuesFrom => "Once wait queues from",
+            Place::OnceWaitForceQueuesFrom => "Once wait, poison ignored, queues from",
+            Place::OnceWaitWaitsOn => "Once wait waits on",
+            Place::InClosureOf => "in a closure of",
+            Place::Idle => "idle",
+            Place::ParkWaitsOn => "park waits on",
+            Place::ParkExchanges => "park exchanges",
+        })
+    }
 }
 
 fn lock(at: LockAt) -> At {
     At::Mutex {
         mutex: 0,
-        at: MutexAt::Lock { at: at },
+        at: MutexAt::Lock { at },
     }
 }
 
 fn wait(at: condvar::WaitAt) -> At {
     At::Condvar {
         condvar: 0,
-        at: CondvarAt::Wait { mutex: 0, at: at },
+        at: CondvarAt::Wait { mutex: 0, at },
     }
 }
 
 fn relock(at: LockAt) -> At {
-    wait(condvar::WaitAt::Relock { at: at })
-}
-
-fn in_mutex(place: u32, value: u32) -> At {
-    let left = byte(value);
-    match place {
-        0 => lock(LockAt::Spin { left: left }),
-        1 => lock(LockAt::SpinAgain { left: left }),
-        2 => relock(LockAt::Spin { left: left }),
-        3 => relock(LockAt::SpinAgain { left: left }),
-        4 => lock(LockAt::Wait),
-        5 => wait(condvar::WaitAt::Wait { sequence: value }),
-        6 => relock(LockAt::Wait),
-        _ => At::Mutex {
-            mutex: 0,
-            at: MutexAt::Unlock { at: UnlockAt::Wake },
-        },
-    }
+    wait(condvar::WaitAt::Relock { at })
 }
 
 fn rwlock(at: RwLockAt) -> At {
-    At::RwLock { lock: 0, at: at }
+    At::RwLock { lock: 0, at }
 }
 
-fn read_at(place: u32, value: u32) -> ReadAt {
-    let left = byte(value);
-    match place {
-        0 => ReadAt::Spin {
-            slept: false,
-            left: left,
-        },
-        1 => ReadAt::Spin {
-            slept: true,
-            left: left,
-        },
-        2 => ReadAt::Exchange { seen: value },
-        3 => ReadAt::ExchangeContended {
-            slept: false,
-            seen: value,
-        },
-        4 => ReadAt::ExchangeContended {
-            slept: true,
-            seen: value,
-        },
-        5 => ReadAt::SetWaiting {
-            slept: false,
-            seen: value,
-        },
-        6 => ReadAt::SetWaiting {
-            slept: true,
-            seen: value,
-        },
-        _ => ReadAt::Wait { seen: value },
+fn read(at: ReadAt) -> At {
+    rwlock(RwLockAt::Read { at })
+}
+
+fn write(at: WriteAt) -> At {
+    rwlock(RwLockAt::Write { at })
+}
+
+fn once_call(ignores: bool, at: CallAt) -> At {
+    At::Once {
+        once: 0,
+        at: OnceAt::Call { ignores, at },
     }
 }
 
-fn write_at(place: u32, value: u32) -> RwLockAt {
-    let left = byte(value);
-    match place {
-        0 => RwLockAt::TryRead {
-            at: TryAt::Exchange { seen: value },
-        },
-        1 => RwLockAt::TryWrite {
-            at: TryAt::Exchange { seen: value },
-        },
-        2 => RwLockAt::Write {
-            at: WriteAt::Spin {
+fn once_wait(ignores: bool, at: once::WaitAt) -> At {
+    At::Once {
+        once: 0,
+        at: OnceAt::Wait { ignores, at },
+    }
+}
+
+fn park(at: ParkAt) -> At {
+    At::Parker {
+        at: ParkerAt::Park { at },
+    }
+}
+
+impl Place {
+    // The position with this value; `left`, the spins that a position has left, is the value's low byte.
+    pub fn with(self, value: u32) -> At {
+        let left = (value % 256) as u8;
+        let seen = value;
+        let sequence = value;
+        match self {
+            Place::LockSpins => lock(LockAt::Spin { left }),
+            Place::LockSpinsAgain => lock(LockAt::SpinAgain { left }),
+            Place::LockWaitsOn => lock(LockAt::Wait),
+            Place::UnlockWakes => At::Mutex {
+                mutex: 0,
+                at: MutexAt::Unlock { at: UnlockAt::Wake },
+            },
+            Place::CondvarWaitUnlocksFrom => wait(condvar::WaitAt::Unlock {
+                sequence,
+                at: UnlockAt::Swap,
+            }),
+            Place::CondvarWaitWaitsOn => wait(condvar::WaitAt::Wait { sequence }),
+            Place::CondvarWaitLockSpins => relock(LockAt::Spin { left }),
+            Place::CondvarWaitLockSpinsAgain => relock(LockAt::SpinAgain { left }),
+            Place::CondvarWaitLockWaitsOn => relock(LockAt::Wait),
+            Place::ReadSpins => read(ReadAt::Spin { slept: false, left }),
+            Place::ReadSpinsAgain => read(ReadAt::Spin { slept: true, left }),
+            Place::ReadLocks => read(ReadAt::Exchange { seen }),
+            Place::ReadLocksAfterSpin => read(ReadAt::ExchangeContended { slept: false, seen }),
+            Place::ReadLocksAfterSleep => read(ReadAt::ExchangeContended { slept: true, seen }),
+            Place::ReadFlags => read(ReadAt::SetWaiting { slept: false, seen }),
+            Place::ReadFlagsAfterSleep => read(ReadAt::SetWaiting { slept: true, seen }),
+            Place::ReadWaitsOn => read(ReadAt::Wait { seen }),
+            Place::TryReadLocks => rwlock(RwLockAt::TryRead {
+                at: TryAt::Exchange { seen },
+            }),
+            Place::TryWriteLocks => rwlock(RwLockAt::TryWrite {
+                at: TryAt::Exchange { seen },
+            }),
+            Place::WriteSpins => write(WriteAt::Spin {
                 others: false,
-                left: left,
-            },
-        },
-        3 => RwLockAt::Write {
-            at: WriteAt::Spin {
-                others: true,
-                left: left,
-            },
-        },
-        4 => RwLockAt::Write {
-            at: WriteAt::ExchangeContended {
+                left,
+            }),
+            Place::WriteSpinsAgain => write(WriteAt::Spin { others: true, left }),
+            Place::WriteLocks => write(WriteAt::ExchangeContended {
                 others: false,
-                seen: value,
-            },
-        },
-        5 => RwLockAt::Write {
-            at: WriteAt::SetWaiting {
+                seen,
+            }),
+            Place::WriteFlags => write(WriteAt::SetWaiting {
                 others: false,
-                seen: value,
-            },
-        },
-        6 => RwLockAt::Write {
-            at: WriteAt::Wait { sequence: value },
-        },
-        _ => RwLockAt::Downgrade {
-            at: DowngradeAt::Subtract,
-        },
+                seen,
+            }),
+            Place::WriteWaitsOn => write(WriteAt::Wait { sequence }),
+            Place::DowngradeSubtracts => rwlock(RwLockAt::Downgrade {
+                at: DowngradeAt::Subtract,
+            }),
+            Place::OnceCallRunsFrom => once_call(false, CallAt::ExchangeRunning { seen }),
+            Place::OnceCallForceRunsFrom => { once_call(true, CallAt::ExchangeRunning { seen }) }
+            Place::OnceCallQueuesFrom => once_call(false, CallAt::ExchangeQueued { seen }),
+            Place::OnceCallWaitsOn => once_call(false, CallAt::Wait { seen }),
+            Place::OnceWaitQueuesFrom => once_wait(false, once::WaitAt::ExchangeQueued { seen }),
+            Place::OnceWaitForceQueuesFrom => {
+                once_wait(true, once::WaitAt::ExchangeQueued { seen })
+            }
+            Place::OnceWaitWaitsOn => once_wait(false, once::WaitAt::Wait { seen }),
+            Place::InClosureOf => once_call(false, CallAt::Closure),
+            Place::Idle => At::Idle,
+            Place::ParkWaitsOn => park(ParkAt::Wait),
+            Place::ParkExchanges => park(ParkAt::Exchange),
+        }
     }
 }
 
-fn call(ignores: bool, at: CallAt) -> OnceAt {
-    OnceAt::Call {
-        ignores: ignores,
-        at: at,
+// A position and its value: thread 0 stands there, and holds nothing.
+#[derive(Clone, Copy)]
+pub struct Inside(pub Place, pub u32);
+
+impl Inside {
+    pub fn awake(self) -> World {
+        let Inside(place, value) = self;
+        forge::fresh(true).stands(0, place.with(value))
+    }
+
+    pub fn asleep(self) -> World {
+        let Inside(place, value) = self;
+        forge::fresh(true).sleeps(place.with(value))
     }
 }
 
-fn once_wait(ignores: bool, at: once::WaitAt) -> OnceAt {
-    OnceAt::Wait {
-        ignores: ignores,
-        at: at,
-    }
-}
-
-fn once_at(place: u32, value: u32) -> OnceAt {
-    match place {
-        0 => call(false, CallAt::ExchangeRunning { seen: value }),
-        1 => call(true, CallAt::ExchangeRunning { seen: value }),
-        2 => call(false, CallAt::ExchangeQueued { seen: value }),
-        3 => call(false, CallAt::Wait { seen: value }),
-        4 => once_wait(false, once::WaitAt::ExchangeQueued { seen: value }),
-        5 => once_wait(true, once::WaitAt::ExchangeQueued { seen: value }),
-        6 => once_wait(false, once::WaitAt::Wait { seen: value }),
-        _ => call(false, CallAt::Closure),
-    }
-}
-
-fn elsewhere(place: u32, value: u32) -> At {
-    match place {
-        0 => At::Idle,
-        1 => At::Parker {
-            at: ParkerAt::Park { at: ParkAt::Wait },
-        },
-        2 => At::Parker {
-            at: ParkerAt::Park {
-                at: ParkAt::Exchange,
-            },
-        },
-        _ => wait(condvar::WaitAt::Unlock {
-            sequence: value,
-            at: UnlockAt::Swap,
-        }),
-    }
-}
-
-pub fn place(place: u32, value: u32) -> At {
-    let within = place % 8;
-    match place / 8 {
-        0 => in_mutex(within, value),
-        1 => rwlock(RwLockAt::Read {
-            at: read_at(within, value),
-        }),
-        2 => rwlock(write_at(within, value)),
-        3 => At::Once {
-            once: 0,
-            at: once_at(within, value),
-        },
-        _ => elsewhere(within, value),
+impl fmt::Display for Inside {
+    fn fmt<W: fmt::Write>(&self, f: &mut fmt::Formatter<W>) -> fmt::Result {
+        let Inside(place, value) = *self;
+        write!(f, "{place} {}", Number(value))
     }
 }

@@ -10,6 +10,7 @@ use Rattle.words.specs.RwLock.{READERS_WAITING, WRITERS_WAITING, is_unlocked, is
 use Rattle.words.specs.declared.Hold.{Hold}
 use Rattle.words.specs.declared.Hold.TheVariants as H
 use Rattle.words.specs.declared.Wake.TheVariants as W
+use Rattle.words.specs.declared.Step.{Step}
 use Rattle.rwlock.specs.declared.ReadAt.{ReadAt}
 use Rattle.rwlock.specs.declared.ReadAt.TheVariants as R
 use Rattle.rwlock.specs.declared.TryAt.{TryAt}
@@ -22,8 +23,7 @@ use Rattle.rwlock.specs.declared.DowngradeAt.{DowngradeAt}
 use Rattle.rwlock.specs.declared.DowngradeAt.TheVariants as D
 use Rattle.rwlock.specs.declared.RwLockAt.{RwLockAt}
 use Rattle.rwlock.specs.declared.RwLockAt.TheVariants as A
-use Rattle.rwlock.specs.declared.RwLockStep.{RwLockStep}
-use Rattle.rwlock.specs.RwLock.{moves_with, sleeps, ends, panics, try_read_top, try_read_of, may_read, read_top, stops_read, read_of, wake_rest, wake_top, read_unlock_of, try_write_top, try_write_of, write_unlock_of, downgrade_of, write_top, stops_write, write_of, wake_of, decide_of}
+use Rattle.rwlock.specs.RwLock.{try_read_top, try_read_of, may_read, read_top, stops_read, read_of, wake_rest, wake_top, read_unlock_of, try_write_top, try_write_of, write_unlock_of, downgrade_of, write_top, stops_write, write_of, wake_of, decide_of}
 use Rattle.rwlock.specs.Positions.{weak_next, read_weak_next, try_weak_next, write_weak_next, may_wake, wake_may_wake, downgrade_may_wake}
 
 read-strong : (at : ReadAt) (f g : Bool) (word : ℕ) → read_weak_next at ≡ false → read_of at f word ≡ read_of at g word
@@ -88,38 +88,38 @@ quiet A.WriteUnlock f word a b e = refl
 quiet (A.Wake writer p) f word a b e = wake-quiet writer p word a b e
 quiet (A.Downgrade p) f word a b e = refl
 
-abbrev Calm : RwLockStep → Type 0
+abbrev Calm : Step RwLockAt → Type 0
 Calm s = s.wake ≡ W.None
 
 try-read-top-calm : (seen : ℕ) → Calm (try_read_top seen)
-unfolding try_read_top moves_with ends
+unfolding try_read_top
 try-read-top-calm seen = either Calm (is_read_lockable seen) _ _ refl refl
 
 try-write-top-calm : (seen : ℕ) → Calm (try_write_top seen)
-unfolding try_write_top moves_with ends
+unfolding try_write_top
 try-write-top-calm seen = either Calm (is_unlocked seen) _ _ refl refl
 
 read-top-calm : (slept : Bool) (seen : ℕ) → Calm (read_top slept seen)
-unfolding read_top moves_with panics
+unfolding read_top
 read-top-calm slept seen =
     either Calm (may_read slept seen) _ _ refl
     (either Calm (has_reached_max_readers seen) _ _ refl (either Calm (has_readers_waiting seen) _ _ refl refl))
 
 write-top-calm : (others : Bool) (seen : ℕ) → Calm (write_top others seen)
-unfolding write_top moves_with
+unfolding write_top
 write-top-calm others seen = either Calm (is_unlocked seen) _ _ refl (either Calm (has_writers_waiting seen) _ _ refl refl)
 
 wake-rest-calm : (writer : Bool) (seen : ℕ) (hold : Hold) → Calm (wake_rest writer seen hold)
-unfolding wake_rest moves_with ends
+unfolding wake_rest
 wake-rest-calm writer seen hold =
     either Calm (eqb seen (READERS_WAITING + WRITERS_WAITING)) _ _ refl (either Calm (eqb seen READERS_WAITING) _ _ refl refl)
 
 wake-top-calm : (writer : Bool) (seen : ℕ) (hold : Hold) → Calm (wake_top writer seen hold)
-unfolding wake_top moves_with
+unfolding wake_top
 wake-top-calm writer seen hold = either Calm (eqb seen WRITERS_WAITING) _ _ refl (wake-rest-calm writer seen hold)
 
 read-calm : (at : ReadAt) (f : Bool) (word : ℕ) → Calm (read_of at f word)
-unfolding read_of moves_with sleeps ends
+unfolding read_of
 read-calm R.Load f word = either Calm (is_read_lockable word) _ _ refl refl
 read-calm (R.Exchange seen) f word = either Calm (exchanges word seen f) _ _ refl refl
 read-calm (R.Spin slept left) f word = either Calm (stops_read word || eqb left 0) _ _ (read-top-calm slept word) refl
@@ -128,17 +128,17 @@ read-calm (R.SetWaiting slept seen) f word = either Calm (eqb word seen) _ _ ref
 read-calm (R.Wait seen) f word = either Calm (eqb word seen) _ _ refl refl
 
 try-read-calm : (at : TryAt) (f : Bool) (word : ℕ) → Calm (try_read_of at f word)
-unfolding try_read_of ends
+unfolding try_read_of
 try-read-calm T.Load f word = try-read-top-calm word
 try-read-calm (T.Exchange seen) f word = either Calm (exchanges word seen f) _ _ refl (try-read-top-calm word)
 
 try-write-calm : (at : TryAt) (f : Bool) (word : ℕ) → Calm (try_write_of at f word)
-unfolding try_write_of ends
+unfolding try_write_of
 try-write-calm T.Load f word = try-write-top-calm word
 try-write-calm (T.Exchange seen) f word = either Calm (exchanges word seen f) _ _ refl (try-write-top-calm word)
 
 write-calm : (at : WriteAt) (f : Bool) (word : ℕ) → Calm (write_of at f word)
-unfolding write_of moves_with sleeps ends
+unfolding write_of
 write-calm Wr.Exchange f word = either Calm (exchanges word 0 f) _ _ refl refl
 write-calm (Wr.Spin others left) f word = either Calm (stops_write word || eqb left 0) _ _ (write-top-calm others word) refl
 write-calm (Wr.ExchangeContended others seen) f word = either Calm (exchanges word seen f) _ _ refl (write-top-calm others word)
@@ -148,19 +148,19 @@ write-calm (Wr.LoadState sequence) f word = either Calm (is_unlocked word || not
 write-calm (Wr.Wait sequence) f word = either Calm (eqb word sequence) _ _ refl refl
 
 read-unlock-calm : (word : ℕ) → Calm (read_unlock_of word)
-unfolding read_unlock_of ends
+unfolding read_unlock_of
 read-unlock-calm word =
     let state : ℕ = read_unlocked word in
     either Calm (is_unlocked state && has_writers_waiting state) _ _ (wake-top-calm false state H.FreeRead) refl
 
 write-unlock-calm : (word : ℕ) → Calm (write_unlock_of word)
-unfolding write_unlock_of ends
+unfolding write_unlock_of
 write-unlock-calm word =
     let state : ℕ = write_unlocked word in
     either Calm (has_writers_waiting state || has_readers_waiting state) _ _ (wake-top-calm true state H.FreeWrite) refl
 
 wake-calm : (writer : Bool) (at : WakeAt) (word : ℕ) (a : Bool) → wake_may_wake at ≡ false → Calm (wake_of writer at word a)
-unfolding wake_of wake_may_wake moves_with ends
+unfolding wake_of wake_may_wake
 wake-calm writer Wk.ExchangeWriters word a e = either Calm (eqb word WRITERS_WAITING) _ _ refl (wake-rest-calm writer word H.Same)
 wake-calm writer Wk.ExchangeBoth word a e = either Calm (eqb word (READERS_WAITING + WRITERS_WAITING)) _ _ refl refl
 wake-calm writer (Wk.Notify both) word a e = refl
@@ -169,7 +169,7 @@ wake-calm writer Wk.ExchangeReaders word a e = either Calm (eqb word READERS_WAI
 wake-calm writer Wk.WakeReaders word a e = cc
 
 downgrade-calm : (at : DowngradeAt) (word : ℕ) → downgrade_may_wake at ≡ false → Calm (downgrade_of at word)
-unfolding downgrade_of downgrade_may_wake moves_with ends
+unfolding downgrade_of downgrade_may_wake
 downgrade-calm D.Add word e = either Calm (has_readers_waiting word) _ _ refl refl
 downgrade-calm D.Subtract word e = refl
 downgrade-calm D.WakeReaders word e = cc

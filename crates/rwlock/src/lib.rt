@@ -1,15 +1,12 @@
 // std's futex RwLock (rwlock/futex.rs) as a step machine: a step runs one atomic operation or one futex
 // call, then the local code up to the next one.
-#![tactic(auto, unfolding(crate::specs::Positions::after_wait, crate::specs::Positions::downgrade_may_wake, crate::specs::Positions::downgrade_needs, crate::specs::Positions::may_wake, crate::specs::Positions::must_wait, crate::specs::Positions::needs_of, crate::specs::Positions::operand_of, crate::specs::Positions::passed_of, crate::specs::Positions::read_passed, crate::specs::Positions::read_wait_next, crate::specs::Positions::read_waits, crate::specs::Positions::read_weak_next, crate::specs::Positions::try_read_passed, crate::specs::Positions::try_weak_next, crate::specs::Positions::try_write_passed, crate::specs::Positions::waits_of, crate::specs::Positions::wake_may_wake, crate::specs::Positions::wake_operand, crate::specs::Positions::weak_next, crate::specs::Positions::write_operand, crate::specs::Positions::write_passed, crate::specs::Positions::write_wait_next, crate::specs::Positions::write_waits, crate::specs::Positions::write_weak_next, crate::specs::RwLock::decide_of, crate::specs::RwLock::downgrade_of, crate::specs::RwLock::ends, crate::specs::RwLock::entry_of, crate::specs::RwLock::may_read, crate::specs::RwLock::moves_with, crate::specs::RwLock::panics, crate::specs::RwLock::read_after_wait, crate::specs::RwLock::read_of, crate::specs::RwLock::read_top, crate::specs::RwLock::read_unlock_of, crate::specs::RwLock::sleeps, crate::specs::RwLock::stops_read, crate::specs::RwLock::stops_write, crate::specs::RwLock::try_read_of, crate::specs::RwLock::try_read_top, crate::specs::RwLock::try_write_of, crate::specs::RwLock::try_write_top, crate::specs::RwLock::wake_of, crate::specs::RwLock::wake_rest, crate::specs::RwLock::wake_top, crate::specs::RwLock::write_after_wait, crate::specs::RwLock::write_locked_with, crate::specs::RwLock::write_of, crate::specs::RwLock::write_top, crate::specs::RwLock::write_unlock_of))]
+#![tactic(auto, unfolding(crate::specs::Positions::after_wait, crate::specs::Positions::downgrade_may_wake, crate::specs::Positions::downgrade_needs, crate::specs::Positions::may_wake, crate::specs::Positions::must_wait, crate::specs::Positions::needs_of, crate::specs::Positions::operand_of, crate::specs::Positions::passed_of, crate::specs::Positions::read_passed, crate::specs::Positions::read_wait_next, crate::specs::Positions::read_waits, crate::specs::Positions::read_weak_next, crate::specs::Positions::try_read_passed, crate::specs::Positions::try_weak_next, crate::specs::Positions::try_write_passed, crate::specs::Positions::waits_of, crate::specs::Positions::wake_may_wake, crate::specs::Positions::wake_operand, crate::specs::Positions::weak_next, crate::specs::Positions::write_operand, crate::specs::Positions::write_passed, crate::specs::Positions::write_wait_next, crate::specs::Positions::write_waits, crate::specs::Positions::write_weak_next, crate::specs::RwLock::decide_of, crate::specs::RwLock::downgrade_of, crate::specs::RwLock::entry_of, crate::specs::RwLock::may_read, crate::specs::RwLock::read_after_wait, crate::specs::RwLock::read_of, crate::specs::RwLock::read_top, crate::specs::RwLock::read_unlock_of, crate::specs::RwLock::stops_read, crate::specs::RwLock::stops_write, crate::specs::RwLock::try_read_of, crate::specs::RwLock::try_read_top, crate::specs::RwLock::try_write_of, crate::specs::RwLock::try_write_top, crate::specs::RwLock::wake_of, crate::specs::RwLock::wake_rest, crate::specs::RwLock::wake_top, crate::specs::RwLock::write_after_wait, crate::specs::RwLock::write_locked_with, crate::specs::RwLock::write_of, crate::specs::RwLock::write_top, crate::specs::RwLock::write_unlock_of))]
 
-ghost use Rattle.std.specs.Prelude.{◌≡◌, false};
-ghost use Rattle.words.specs.Atomic.{SPINS};
-ghost use Rattle.words.specs.declared.Hold.TheVariants.{Same};
-ghost use Rattle.words.specs.declared.Wake.TheVariants.{None};
-ghost use Rattle.rwlock.specs.RwLock.{entry_of, moves_with, moves, sleeps, ends, panics, read_after_wait, write_after_wait, try_read_top, try_read_of, may_read, read_top, stops_read, read_of, wake_rest, wake_top, read_unlock_of, try_write_top, try_write_of, write_unlock_of, downgrade_of, write_locked_with, write_top, stops_write, write_of, wake_of, decide_of};
+ghost use Rattle.std.specs.Prelude.{◌≡◌};
+ghost use Rattle.rwlock.specs.RwLock.{entry_of, read_after_wait, write_after_wait, try_read_top, try_read_of, may_read, read_top, stops_read, read_of, wake_rest, wake_top, read_unlock_of, try_write_top, try_write_of, write_unlock_of, downgrade_of, write_locked_with, write_top, stops_write, write_of, wake_of, decide_of};
 ghost use Rattle.rwlock.specs.Positions.{after_wait, write_operand, wake_operand, operand_of, read_weak_next, try_weak_next, write_weak_next, weak_next, must_wait, read_waits, write_waits, read_passed, try_read_passed, write_passed, try_write_passed, passed_of, downgrade_needs, needs_of, read_wait_next, write_wait_next, waits_of, wake_may_wake, downgrade_may_wake, may_wake};
 
-use words::{CounterWord, Hold, Kind, Needs, Panic, RwLockWord, Wake};
+use words::{CounterWord, Hold, Kind, Needs, Panic, RwLockWord, SPINS, Step, Wake};
 
 #[derive(Clone, Copy)]
 pub enum RwLockCall {
@@ -99,23 +96,6 @@ pub enum RwLockAt {
     Downgrade { at: DowngradeAt },
 }
 
-#[derive(Clone, Copy)]
-pub enum RwLockNext {
-    Moved(RwLockAt),
-    Asleep,
-    Ended(u8),
-    Panic(u8),
-}
-
-// What a step of a call on an RwLock does.
-#[derive(Clone, Copy)]
-pub struct RwLockStep {
-    pub word: u32,
-    pub next: RwLockNext,
-    pub hold: Hold,
-    pub wake: Wake,
-}
-
 pub fn entry(call: RwLockCall) -> RwLockAt
     ensures { result ≡ entry_of call }
 {
@@ -134,90 +114,26 @@ pub fn entry(call: RwLockCall) -> RwLockAt
     }
 }
 
-fn moves_with(word: u32, at: RwLockAt, hold: Hold, wake: Wake) -> RwLockStep
-    ensures { result ≡ moves_with word at hold wake }
-{
-    RwLockStep {
-        word: word,
-        next: RwLockNext::Moved(at),
-        hold: hold,
-        wake: wake,
-    }
-}
-
-fn moves(word: u32, at: RwLockAt) -> RwLockStep
-    ensures { result ≡ moves word at }
-{
-    moves_with(word, at, Hold::Same, Wake::None)
-}
-
-fn sleeps(word: u32) -> RwLockStep
-    ensures { result ≡ sleeps word }
-{
-    RwLockStep {
-        word: word,
-        next: RwLockNext::Asleep,
-        hold: Hold::Same,
-        wake: Wake::None,
-    }
-}
-
-fn ends(word: u32, value: u8, hold: Hold, wake: Wake) -> RwLockStep
-    ensures { result ≡ ends word value hold wake }
-{
-    RwLockStep {
-        word: word,
-        next: RwLockNext::Ended(value),
-        hold: hold,
-        wake: wake,
-    }
-}
-
-fn panics(word: u32, number: u8) -> RwLockStep
-    ensures { result ≡ panics word number }
-{
-    RwLockStep {
-        word: word,
-        next: RwLockNext::Panic(number),
-        hold: Hold::Same,
-        wake: Wake::None,
-    }
-}
-
 // try_read's closure, on the state seen.
-fn try_read_top(seen: u32) -> RwLockStep
+fn try_read_top(seen: u32) -> Step<RwLockAt>
     ensures { result ≡ try_read_top seen }
 {
-    let lockable = RwLockWord::is_read_lockable(seen);
-    if lockable {
-        return moves(
-            seen,
-            RwLockAt::TryRead {
-                at: TryAt::Exchange { seen: seen },
-            },
-        );
+    if RwLockWord::is_read_lockable(seen) {
+        let at = TryAt::Exchange { seen };
+        return Step::moves(seen, RwLockAt::TryRead { at });
     }
-    ends(seen, 0, Hold::Same, Wake::None)
-}
-
-fn try_read_exchange(seen: u32, fails: bool, word: u32) -> RwLockStep
-    ensures { result ≡ try_read_of (TryAt.Exchange seen) fails word }
-{
-    let stores = words::exchanges(word, seen, fails);
-    let locked = RwLockWord::read_locked(seen);
-    if stores {
-        return ends(locked, 1, Hold::TakeRead, Wake::None);
-    }
-    try_read_top(word)
+    Step::ends(seen, 0, Hold::Same, Wake::None)
 }
 
 // One step of `try_read`.
-pub fn try_read(at: TryAt, fails: bool, word: u32) -> RwLockStep
+pub fn try_read(at: TryAt, fails: bool, word: u32) -> Step<RwLockAt>
     ensures { result ≡ try_read_of at fails word }
 {
     match at {
-        TryAt::Load => try_read_top(word),
-        TryAt::Exchange { seen } => try_read_exchange(seen, fails, word),
+        TryAt::Exchange { seen } if words::exchanges(word, seen, fails) => {
+            Step::ends(RwLockWord::read_locked(seen), 1, Hold::TakeRead, Wake::None)
+        }
+        TryAt::Load | TryAt::Exchange { .. } => try_read_top(word),
     }
 }
 
@@ -225,340 +141,177 @@ pub fn try_read(at: TryAt, fails: bool, word: u32) -> RwLockStep
 fn may_read(slept: bool, seen: u32) -> bool
     ensures { result ≡ may_read slept seen }
 {
-    let lockable = RwLockWord::is_read_lockable(seen);
-    let after_wakeup = RwLockWord::is_read_lockable_after_wakeup(seen);
-    if slept {
-        if after_wakeup {
-            return true;
-        }
-        return lockable;
-    }
-    lockable
+    slept && RwLockWord::is_read_lockable_after_wakeup(seen) || RwLockWord::is_read_lockable(seen)
 }
 
 // The loop of read_contended, with the state seen.
-fn read_top(slept: bool, seen: u32) -> RwLockStep
+fn read_top(slept: bool, seen: u32) -> Step<RwLockAt>
     ensures { result ≡ read_top slept seen }
 {
-    let may = may_read(slept, seen);
-    if may {
-        return moves(
-            seen,
-            RwLockAt::Read {
-                at: ReadAt::ExchangeContended {
-                    slept: slept,
-                    seen: seen,
-                },
-            },
-        );
+    let to = |at| RwLockAt::Read { at };
+    if may_read(slept, seen) {
+        return Step::moves(seen, to(ReadAt::ExchangeContended { slept, seen }));
     }
     // Check for overflow.
-    let most = RwLockWord::has_reached_max_readers(seen);
-    if most {
-        return panics(seen, Panic::TOO_MANY_READERS);
+    if RwLockWord::has_reached_max_readers(seen) {
+        return Step::panics(seen, Panic::TooManyReaders, Wake::None);
     }
     // Make sure the readers waiting bit is set before we go to sleep.
-    let readers = RwLockWord::has_readers_waiting(seen);
-    if readers {
-        return moves(
-            seen,
-            RwLockAt::Read {
-                at: ReadAt::Wait { seen: seen },
-            },
-        );
+    if RwLockWord::has_readers_waiting(seen) {
+        return Step::moves(seen, to(ReadAt::Wait { seen }));
     }
-    moves(
-        seen,
-        RwLockAt::Read {
-            at: ReadAt::SetWaiting {
-                slept: slept,
-                seen: seen,
-            },
-        },
-    )
+    Step::moves(seen, to(ReadAt::SetWaiting { slept, seen }))
 }
 
 // spin_read: stop when it's unlocked or read locked, or when there's waiting threads.
 fn stops_read(state: u32) -> bool
     ensures { result ≡ stops_read state }
 {
-    let written = RwLockWord::is_write_locked(state);
-    let readers = RwLockWord::has_readers_waiting(state);
-    let writers = RwLockWord::has_writers_waiting(state);
-    if written {
-        if readers {
-            return true;
-        }
-        return writers;
-    }
-    true
-}
-
-fn read_contended(word: u32) -> RwLockStep
-    ensures { result ≡ moves_with word (RwLockAt.Read (ReadAt.Spin false SPINS)) Same None }
-{
-    moves(
-        word,
-        RwLockAt::Read {
-            at: ReadAt::Spin {
-                slept: false,
-                left: words::SPINS,
-            },
-        },
-    )
-}
-
-fn read_load(fails: bool, word: u32) -> RwLockStep
-    ensures { result ≡ read_of ReadAt.Load fails word }
-{
-    let lockable = RwLockWord::is_read_lockable(word);
-    if lockable {
-        return moves(
-            word,
-            RwLockAt::Read {
-                at: ReadAt::Exchange { seen: word },
-            },
-        );
-    }
-    read_contended(word)
-}
-
-fn read_exchange(seen: u32, fails: bool, word: u32) -> RwLockStep
-    ensures { result ≡ read_of (ReadAt.Exchange seen) fails word }
-{
-    let stores = words::exchanges(word, seen, fails);
-    let locked = RwLockWord::read_locked(seen);
-    if stores {
-        return ends(locked, 1, Hold::TakeRead, Wake::None);
-    }
-    read_contended(word)
-}
-
-fn read_spin(slept: bool, left: u8, fails: bool, word: u32) -> RwLockStep
-    ensures { result ≡ read_of (ReadAt.Spin slept left) fails word }
-{
-    let stops = stops_read(word);
-    if stops {
-        return read_top(slept, word);
-    }
-    if left == 0 {
-        return read_top(slept, word);
-    }
-    moves(
-        word,
-        RwLockAt::Read {
-            at: ReadAt::Spin {
-                slept: slept,
-                left: left - 1,
-            },
-        },
-    )
-}
-
-fn read_exchange_contended(slept: bool, seen: u32, fails: bool, word: u32) -> RwLockStep
-    ensures { result ≡ read_of (ReadAt.ExchangeContended slept seen) fails word }
-{
-    let stores = words::exchanges(word, seen, fails);
-    let locked = RwLockWord::read_locked(seen);
-    if stores {
-        return ends(locked, 1, Hold::TakeRead, Wake::None);
-    }
-    read_top(slept, word)
-}
-
-fn read_set_waiting(slept: bool, seen: u32, fails: bool, word: u32) -> RwLockStep
-    ensures { result ≡ read_of (ReadAt.SetWaiting slept seen) fails word }
-{
-    let same = word == seen;
-    let waiting = RwLockWord::with_readers_waiting(seen);
-    if same {
-        return moves(
-            waiting,
-            RwLockAt::Read {
-                at: ReadAt::Wait { seen: waiting },
-            },
-        );
-    }
-    read_top(slept, word)
-}
-
-fn read_wait(seen: u32, fails: bool, word: u32) -> RwLockStep
-    ensures { result ≡ read_of (ReadAt.Wait seen) fails word }
-{
-    let same = word == seen;
-    if same {
-        return sleeps(word);
-    }
-    let at = read_after_wait(ReadAt::Wait { seen: seen });
-    moves(word, RwLockAt::Read { at: at })
+    !RwLockWord::is_write_locked(state)
+        || RwLockWord::has_readers_waiting(state)
+        || RwLockWord::has_writers_waiting(state)
 }
 
 // One step of `read`.
-pub fn read(at: ReadAt, fails: bool, word: u32) -> RwLockStep
+pub fn read(at: ReadAt, fails: bool, word: u32) -> Step<RwLockAt>
     ensures { result ≡ read_of at fails word }
 {
+    let to = |at| RwLockAt::Read { at };
+    let contended = ReadAt::Spin {
+        slept: false,
+        left: SPINS,
+    };
     match at {
-        ReadAt::Load => read_load(fails, word),
-        ReadAt::Exchange { seen } => read_exchange(seen, fails, word),
-        ReadAt::Spin { slept, left } => read_spin(slept, left, fails, word),
-        ReadAt::ExchangeContended { slept, seen } => {
-            read_exchange_contended(slept, seen, fails, word)
+        ReadAt::Load if RwLockWord::is_read_lockable(word) => {
+            Step::moves(word, to(ReadAt::Exchange { seen: word }))
         }
-        ReadAt::SetWaiting { slept, seen } => read_set_waiting(slept, seen, fails, word),
-        ReadAt::Wait { seen } => read_wait(seen, fails, word),
+        ReadAt::Exchange { seen } | ReadAt::ExchangeContended { seen, .. }
+            if words::exchanges(word, seen, fails) => {
+            Step::ends(RwLockWord::read_locked(seen), 1, Hold::TakeRead, Wake::None)
+        }
+        ReadAt::Load | ReadAt::Exchange { .. } => Step::moves(word, to(contended)),
+        ReadAt::Spin { slept, left } => {
+            if stops_read(word) || left == 0 {
+                return read_top(slept, word);
+            }
+            let left = left - 1;
+            Step::moves(word, to(ReadAt::Spin { slept, left }))
+        }
+        ReadAt::ExchangeContended { slept, .. } => read_top(slept, word),
+        ReadAt::SetWaiting { seen, .. } if word == seen => {
+            let seen = RwLockWord::with_readers_waiting(seen);
+            Step::moves(seen, to(ReadAt::Wait { seen }))
+        }
+        ReadAt::SetWaiting { slept, .. } => read_top(slept, word),
+        ReadAt::Wait { seen } if word == seen => Step::sleeps(word),
+        ReadAt::Wait { .. } => Step::moves(word, to(read_after_wait(at))),
     }
-}
-
-fn wakes(writer: bool, at: WakeAt, word: u32, hold: Hold) -> RwLockStep
-    ensures { result ≡ moves_with word (RwLockAt.Wake writer at) hold None }
-{
-    moves_with(
-        word,
-        RwLockAt::Wake {
-            writer: writer,
-            at: at,
-        },
-        hold,
-        Wake::None,
-    )
 }
 
 // wake_writer_or_readers from its second `if` on, with the state seen.
-fn wake_rest(writer: bool, seen: u32, hold: Hold) -> RwLockStep
+fn wake_rest(writer: bool, seen: u32, hold: Hold) -> Step<RwLockAt>
     ensures { result ≡ wake_rest writer seen hold }
 {
+    let to = |at| RwLockAt::Wake { writer, at };
     // If both writers and readers are waiting, leave the readers waiting and only wake up one writer.
-    let both = seen == RwLockWord::READERS_WAITING + RwLockWord::WRITERS_WAITING;
-    if both {
-        return wakes(writer, WakeAt::ExchangeBoth, seen, hold);
+    if seen == RwLockWord::READERS_WAITING + RwLockWord::WRITERS_WAITING {
+        return Step::moves_with(seen, to(WakeAt::ExchangeBoth), hold, Wake::None);
     }
     // If readers are waiting, wake them all up.
-    let readers = seen == RwLockWord::READERS_WAITING;
-    if readers {
-        return wakes(writer, WakeAt::ExchangeReaders, seen, hold);
+    if seen == RwLockWord::READERS_WAITING {
+        return Step::moves_with(seen, to(WakeAt::ExchangeReaders), hold, Wake::None);
     }
-    ends(seen, 1, hold, Wake::None)
+    Step::ends(seen, 1, hold, Wake::None)
 }
 
 // wake_writer_or_readers, with the state that the unlocking left. The readers waiting bit might be turned
 // on at any point now, since readers will block when there's anything waiting. Writers will just lock the
 // lock though, regardless of the waiting bits. If the lock gets locked in the meantime, we don't have to
 // do anything: the thread that locked it wakes up waiters when it unlocks.
-fn wake_top(writer: bool, seen: u32, hold: Hold) -> RwLockStep
+fn wake_top(writer: bool, seen: u32, hold: Hold) -> Step<RwLockAt>
     ensures { result ≡ wake_top writer seen hold }
 {
     // If only writers are waiting, wake one of them up.
-    let writers = seen == RwLockWord::WRITERS_WAITING;
-    if writers {
-        return wakes(writer, WakeAt::ExchangeWriters, seen, hold);
+    if seen == RwLockWord::WRITERS_WAITING {
+        let at = WakeAt::ExchangeWriters;
+        return Step::moves_with(seen, RwLockAt::Wake { writer, at }, hold, Wake::None);
     }
     wake_rest(writer, seen, hold)
 }
 
 // One step of `read_unlock`: its fetch_sub.
-pub fn read_unlock(word: u32) -> RwLockStep
+pub fn read_unlock(word: u32) -> Step<RwLockAt>
     ensures { result ≡ read_unlock_of word }
 {
     let state = RwLockWord::read_unlocked(word);
-    let free = RwLockWord::is_unlocked(state);
-    let writers = RwLockWord::has_writers_waiting(state);
     // Wake up a writer if we were the last reader and there's a writer waiting. (It's impossible for a
     // reader to be waiting on a read-locked RwLock, except if there is also a writer waiting.)
-    if free {
-        if writers {
-            return wake_top(false, state, Hold::FreeRead);
-        }
-        return ends(state, 1, Hold::FreeRead, Wake::None);
+    if RwLockWord::is_unlocked(state) && RwLockWord::has_writers_waiting(state) {
+        return wake_top(false, state, Hold::FreeRead);
     }
-    ends(state, 1, Hold::FreeRead, Wake::None)
+    Step::ends(state, 1, Hold::FreeRead, Wake::None)
 }
 
 // try_write's closure, on the state seen.
-fn try_write_top(seen: u32) -> RwLockStep
+fn try_write_top(seen: u32) -> Step<RwLockAt>
     ensures { result ≡ try_write_top seen }
 {
-    let free = RwLockWord::is_unlocked(seen);
-    if free {
-        return moves(
-            seen,
-            RwLockAt::TryWrite {
-                at: TryAt::Exchange { seen: seen },
-            },
-        );
+    if RwLockWord::is_unlocked(seen) {
+        let at = TryAt::Exchange { seen };
+        return Step::moves(seen, RwLockAt::TryWrite { at });
     }
-    ends(seen, 0, Hold::Same, Wake::None)
-}
-
-fn try_write_exchange(seen: u32, fails: bool, word: u32) -> RwLockStep
-    ensures { result ≡ try_write_of (TryAt.Exchange seen) fails word }
-{
-    let stores = words::exchanges(word, seen, fails);
-    let locked = RwLockWord::write_locked(seen);
-    if stores {
-        return ends(locked, 1, Hold::TakeWrite, Wake::None);
-    }
-    try_write_top(word)
+    Step::ends(seen, 0, Hold::Same, Wake::None)
 }
 
 // One step of `try_write`.
-pub fn try_write(at: TryAt, fails: bool, word: u32) -> RwLockStep
+pub fn try_write(at: TryAt, fails: bool, word: u32) -> Step<RwLockAt>
     ensures { result ≡ try_write_of at fails word }
 {
     match at {
-        TryAt::Load => try_write_top(word),
-        TryAt::Exchange { seen } => try_write_exchange(seen, fails, word),
+        TryAt::Exchange { seen } if words::exchanges(word, seen, fails) => {
+            Step::ends(
+                RwLockWord::write_locked(seen),
+                1,
+                Hold::TakeWrite,
+                Wake::None,
+            )
+        }
+        TryAt::Load | TryAt::Exchange { .. } => try_write_top(word),
     }
 }
 
 // One step of `write_unlock`: its fetch_sub.
-pub fn write_unlock(word: u32) -> RwLockStep
+pub fn write_unlock(word: u32) -> Step<RwLockAt>
     ensures { result ≡ write_unlock_of word }
 {
     let state = RwLockWord::write_unlocked(word);
-    let writers = RwLockWord::has_writers_waiting(state);
-    let readers = RwLockWord::has_readers_waiting(state);
-    if writers {
+    if RwLockWord::has_writers_waiting(state) || RwLockWord::has_readers_waiting(state) {
         return wake_top(true, state, Hold::FreeWrite);
     }
-    if readers {
-        return wake_top(true, state, Hold::FreeWrite);
-    }
-    ends(state, 1, Hold::FreeWrite, Wake::None)
-}
-
-fn downgrade_add(word: u32) -> RwLockStep
-    ensures { result ≡ downgrade_of DowngradeAt.Add word }
-{
-    // Removes all write bits and adds a single read bit.
-    let state = RwLockWord::downgraded(word);
-    let readers = RwLockWord::has_readers_waiting(word);
-    if readers {
-        // Since we had the exclusive lock, nobody else can unset this bit.
-        return moves_with(
-            state,
-            RwLockAt::Downgrade {
-                at: DowngradeAt::Subtract,
-            },
-            Hold::Downgrade,
-            Wake::None,
-        );
-    }
-    ends(state, 1, Hold::Downgrade, Wake::None)
+    Step::ends(state, 1, Hold::FreeWrite, Wake::None)
 }
 
 // One step of `downgrade`.
-pub fn downgrade(at: DowngradeAt, word: u32) -> RwLockStep
+pub fn downgrade(at: DowngradeAt, word: u32) -> Step<RwLockAt>
     ensures { result ≡ downgrade_of at word }
 {
+    let to = |at| RwLockAt::Downgrade { at };
     match at {
-        DowngradeAt::Add => downgrade_add(word),
-        DowngradeAt::Subtract => moves(
-            RwLockWord::without_readers_waiting(word),
-            RwLockAt::Downgrade {
-                at: DowngradeAt::WakeReaders,
-            },
-        ),
-        DowngradeAt::WakeReaders => ends(word, 1, Hold::Same, Wake::All),
+        DowngradeAt::Add => {
+            // Removes all write bits and adds a single read bit.
+            let state = RwLockWord::downgraded(word);
+            if RwLockWord::has_readers_waiting(word) {
+                // Since we had the exclusive lock, nobody else can unset this bit.
+                let subtract = to(DowngradeAt::Subtract);
+                return Step::moves_with(state, subtract, Hold::Downgrade, Wake::None);
+            }
+            Step::ends(state, 1, Hold::Downgrade, Wake::None)
+        }
+        DowngradeAt::Subtract => {
+            let state = RwLockWord::without_readers_waiting(word);
+            Step::moves(state, to(DowngradeAt::WakeReaders))
+        }
+        DowngradeAt::WakeReaders => Step::ends(word, 1, Hold::Same, Wake::All),
     }
 }
 
@@ -574,276 +327,137 @@ fn write_locked_with(others: bool, seen: u32) -> u32
 }
 
 // The loop of write_contended, with the state seen.
-fn write_top(others: bool, seen: u32) -> RwLockStep
+fn write_top(others: bool, seen: u32) -> Step<RwLockAt>
     ensures { result ≡ write_top others seen }
 {
+    let to = |at| RwLockAt::Write { at };
     // If it's unlocked, we try to lock it.
-    let free = RwLockWord::is_unlocked(seen);
-    if free {
-        return moves(
-            seen,
-            RwLockAt::Write {
-                at: WriteAt::ExchangeContended {
-                    others: others,
-                    seen: seen,
-                },
-            },
-        );
+    if RwLockWord::is_unlocked(seen) {
+        return Step::moves(seen, to(WriteAt::ExchangeContended { others, seen }));
     }
     // Set the waiting bit indicating that we're waiting on it.
-    let writers = RwLockWord::has_writers_waiting(seen);
-    if writers {
-        return moves(
-            seen,
-            RwLockAt::Write {
-                at: WriteAt::LoadSequence,
-            },
-        );
+    if RwLockWord::has_writers_waiting(seen) {
+        return Step::moves(seen, to(WriteAt::LoadSequence));
     }
-    moves(
-        seen,
-        RwLockAt::Write {
-            at: WriteAt::SetWaiting {
-                others: others,
-                seen: seen,
-            },
-        },
-    )
+    Step::moves(seen, to(WriteAt::SetWaiting { others, seen }))
 }
 
 // spin_write: stop when it's unlocked or when there's waiting writers, to keep things somewhat fair.
 fn stops_write(state: u32) -> bool
     ensures { result ≡ stops_write state }
 {
-    let free = RwLockWord::is_unlocked(state);
-    let writers = RwLockWord::has_writers_waiting(state);
-    if free {
-        return true;
-    }
-    writers
-}
-
-fn write_exchange(fails: bool, word: u32) -> RwLockStep
-    ensures { result ≡ write_of WriteAt.Exchange fails word }
-{
-    let stores = words::exchanges(word, 0, fails);
-    if stores {
-        return ends(RwLockWord::WRITE_LOCKED, 1, Hold::TakeWrite, Wake::None);
-    }
-    moves(
-        word,
-        RwLockAt::Write {
-            at: WriteAt::Spin {
-                others: false,
-                left: words::SPINS,
-            },
-        },
-    )
-}
-
-fn write_spin(others: bool, left: u8, fails: bool, word: u32) -> RwLockStep
-    ensures { result ≡ write_of (WriteAt.Spin others left) fails word }
-{
-    let stops = stops_write(word);
-    if stops {
-        return write_top(others, word);
-    }
-    if left == 0 {
-        return write_top(others, word);
-    }
-    moves(
-        word,
-        RwLockAt::Write {
-            at: WriteAt::Spin {
-                others: others,
-                left: left - 1,
-            },
-        },
-    )
-}
-
-fn write_exchange_contended(others: bool, seen: u32, fails: bool, word: u32) -> RwLockStep
-    ensures { result ≡ write_of (WriteAt.ExchangeContended others seen) fails word }
-{
-    let stores = words::exchanges(word, seen, fails);
-    let locked = write_locked_with(others, seen);
-    if stores {
-        return ends(locked, 1, Hold::TakeWrite, Wake::None);
-    }
-    write_top(others, word)
-}
-
-fn write_set_waiting(others: bool, seen: u32, fails: bool, word: u32) -> RwLockStep
-    ensures { result ≡ write_of (WriteAt.SetWaiting others seen) fails word }
-{
-    let same = word == seen;
-    let waiting = RwLockWord::with_writers_waiting(seen);
-    if same {
-        // Other writers might be waiting now too, so we should make sure we keep that bit on once we
-        // manage to lock it.
-        return moves(
-            waiting,
-            RwLockAt::Write {
-                at: WriteAt::LoadSequence,
-            },
-        );
-    }
-    write_top(others, word)
-}
-
-fn write_load_sequence(fails: bool, word: u32) -> RwLockStep
-    ensures { result ≡ write_of WriteAt.LoadSequence fails word }
-{
-    // Examine the notification counter before we check if the state has changed, to make sure we don't
-    // miss any notifications.
-    moves(
-        word,
-        RwLockAt::Write {
-            at: WriteAt::LoadState { sequence: word },
-        },
-    )
-}
-
-fn write_load_state(sequence: u32, fails: bool, word: u32) -> RwLockStep
-    ensures { result ≡ write_of (WriteAt.LoadState sequence) fails word }
-{
-    // Don't go to sleep if the lock has become available, or if the writers waiting bit is no longer set.
-    let free = RwLockWord::is_unlocked(word);
-    let writers = RwLockWord::has_writers_waiting(word);
-    if free {
-        return write_top(true, word);
-    }
-    if writers {
-        return moves(
-            word,
-            RwLockAt::Write {
-                at: WriteAt::Wait { sequence: sequence },
-            },
-        );
-    }
-    write_top(true, word)
-}
-
-fn write_wait(sequence: u32, fails: bool, word: u32) -> RwLockStep
-    ensures { result ≡ write_of (WriteAt.Wait sequence) fails word }
-{
-    let same = word == sequence;
-    if same {
-        return sleeps(word);
-    }
-    let at = write_after_wait(WriteAt::Wait { sequence: sequence });
-    moves(word, RwLockAt::Write { at: at })
+    RwLockWord::is_unlocked(state) || RwLockWord::has_writers_waiting(state)
 }
 
 // One step of `write`.
-pub fn write(at: WriteAt, fails: bool, word: u32) -> RwLockStep
+pub fn write(at: WriteAt, fails: bool, word: u32) -> Step<RwLockAt>
     ensures { result ≡ write_of at fails word }
 {
+    let to = |at| RwLockAt::Write { at };
     match at {
-        WriteAt::Exchange => write_exchange(fails, word),
-        WriteAt::Spin { others, left } => write_spin(others, left, fails, word),
+        WriteAt::Exchange if words::exchanges(word, 0, fails) => {
+            Step::ends(RwLockWord::WRITE_LOCKED, 1, Hold::TakeWrite, Wake::None)
+        }
+        WriteAt::Exchange => {
+            let spin = WriteAt::Spin {
+                others: false,
+                left: SPINS,
+            };
+            Step::moves(word, to(spin))
+        }
+        WriteAt::Spin { others, left } => {
+            if stops_write(word) || left == 0 {
+                return write_top(others, word);
+            }
+            let left = left - 1;
+            Step::moves(word, to(WriteAt::Spin { others, left }))
+        }
         WriteAt::ExchangeContended { others, seen } => {
-            write_exchange_contended(others, seen, fails, word)
+            if words::exchanges(word, seen, fails) {
+                let locked = write_locked_with(others, seen);
+                return Step::ends(locked, 1, Hold::TakeWrite, Wake::None);
+            }
+            write_top(others, word)
         }
-        WriteAt::SetWaiting { others, seen } => write_set_waiting(others, seen, fails, word),
-        WriteAt::LoadSequence => write_load_sequence(fails, word),
-        WriteAt::LoadState { sequence } => write_load_state(sequence, fails, word),
-        WriteAt::Wait { sequence } => write_wait(sequence, fails, word),
-    }
-}
-
-fn exchange_writers(writer: bool, word: u32, anyone: bool) -> RwLockStep
-    ensures { result ≡ wake_of writer WakeAt.ExchangeWriters word anyone }
-{
-    let writers = word == RwLockWord::WRITERS_WAITING;
-    if writers {
-        return wakes(writer, WakeAt::Notify { both: false }, 0, Hold::Same);
-    }
-    // Maybe some readers are now waiting too. So, continue to the next `if`.
-    wake_rest(writer, word, Hold::Same)
-}
-
-fn exchange_both(writer: bool, word: u32, anyone: bool) -> RwLockStep
-    ensures { result ≡ wake_of writer WakeAt.ExchangeBoth word anyone }
-{
-    let both = word == RwLockWord::READERS_WAITING + RwLockWord::WRITERS_WAITING;
-    if both {
-        return wakes(
-            writer,
-            WakeAt::Notify { both: true },
-            RwLockWord::READERS_WAITING,
-            Hold::Same,
-        );
-    }
-    // The lock got locked. Not our problem anymore.
-    ends(word, 1, Hold::Same, Wake::None)
-}
-
-fn wake_writer(writer: bool, both: bool, word: u32, anyone: bool) -> RwLockStep
-    ensures { result ≡ wake_of writer (WakeAt.WakeWriter both) word anyone }
-{
-    if both {
-        if anyone {
-            return ends(word, 1, Hold::Same, Wake::One);
+        WriteAt::SetWaiting { others, seen } => {
+            if word == seen {
+                // Other writers might be waiting now too, so we should make sure we keep that bit on
+                // once we manage to lock it.
+                let waiting = RwLockWord::with_writers_waiting(seen);
+                return Step::moves(waiting, to(WriteAt::LoadSequence));
+            }
+            write_top(others, word)
         }
-        // No writers were actually blocked on futex_wait, so we continue to wake up readers instead,
-        // since we can't be sure if we notified a writer.
-        return moves_with(
-            word,
-            RwLockAt::Wake {
-                writer: writer,
-                at: WakeAt::ExchangeReaders,
-            },
-            Hold::Same,
-            Wake::One,
-        );
+        // Examine the notification counter before we check if the state has changed, to make sure we
+        // don't miss any notifications.
+        WriteAt::LoadSequence => Step::moves(word, to(WriteAt::LoadState { sequence: word })),
+        WriteAt::LoadState { sequence } => {
+            // Don't go to sleep if the lock has become available, or if the writers waiting bit is no
+            // longer set.
+            if RwLockWord::is_unlocked(word) || !RwLockWord::has_writers_waiting(word) {
+                return write_top(true, word);
+            }
+            Step::moves(word, to(WriteAt::Wait { sequence }))
+        }
+        WriteAt::Wait { sequence } if word == sequence => Step::sleeps(word),
+        WriteAt::Wait { .. } => Step::moves(word, to(write_after_wait(at))),
     }
-    ends(word, 1, Hold::Same, Wake::One)
-}
-
-fn exchange_readers(writer: bool, word: u32, anyone: bool) -> RwLockStep
-    ensures { result ≡ wake_of writer WakeAt.ExchangeReaders word anyone }
-{
-    let readers = word == RwLockWord::READERS_WAITING;
-    if readers {
-        return wakes(writer, WakeAt::WakeReaders, 0, Hold::Same);
-    }
-    ends(word, 1, Hold::Same, Wake::None)
 }
 
 // One step of wake_writer_or_readers, or of wake_writer in it.
-pub fn wake_writer_or_readers(writer: bool, at: WakeAt, word: u32, anyone: bool) -> RwLockStep
+pub fn wake_writer_or_readers(writer: bool, at: WakeAt, word: u32, anyone: bool) -> Step<RwLockAt>
     ensures { result ≡ wake_of writer at word anyone }
 {
+    let to = |at| RwLockAt::Wake { writer, at };
     match at {
-        WakeAt::ExchangeWriters => exchange_writers(writer, word, anyone),
-        WakeAt::ExchangeBoth => exchange_both(writer, word, anyone),
-        WakeAt::Notify { both } => wakes(
-            writer,
-            WakeAt::WakeWriter { both: both },
-            CounterWord::incremented(word),
-            Hold::Same,
-        ),
-        WakeAt::WakeWriter { both } => wake_writer(writer, both, word, anyone),
-        WakeAt::ExchangeReaders => exchange_readers(writer, word, anyone),
-        WakeAt::WakeReaders => ends(word, 1, Hold::Same, Wake::All),
+        WakeAt::ExchangeWriters if word == RwLockWord::WRITERS_WAITING => {
+            Step::moves(0, to(WakeAt::Notify { both: false }))
+        }
+        // Maybe some readers are now waiting too. So, continue to the next `if`.
+        WakeAt::ExchangeWriters => wake_rest(writer, word, Hold::Same),
+        WakeAt::ExchangeBoth if word == RwLockWord::READERS_WAITING + RwLockWord::WRITERS_WAITING =>
+            {
+                Step::moves(
+                    RwLockWord::READERS_WAITING,
+                    to(WakeAt::Notify { both: true }),
+                )
+            }
+        // The lock got locked. Not our problem anymore.
+        WakeAt::ExchangeBoth => Step::ends(word, 1, Hold::Same, Wake::None),
+        WakeAt::Notify { both } => {
+            Step::moves(
+                CounterWord::incremented(word),
+                to(WakeAt::WakeWriter { both }),
+            )
+        }
+        // No writers were actually blocked on futex_wait, so we continue to wake up readers instead,
+        // since we can't be sure if we notified a writer.
+        WakeAt::WakeWriter { both } if both && !anyone => {
+            Step::moves_with(word, to(WakeAt::ExchangeReaders), Hold::Same, Wake::One)
+        }
+        WakeAt::WakeWriter { .. } => Step::ends(word, 1, Hold::Same, Wake::One),
+        WakeAt::ExchangeReaders if word == RwLockWord::READERS_WAITING => {
+            Step::moves(0, to(WakeAt::WakeReaders))
+        }
+        WakeAt::ExchangeReaders => Step::ends(word, 1, Hold::Same, Wake::None),
+        WakeAt::WakeReaders => Step::ends(word, 1, Hold::Same, Wake::All),
     }
 }
 
 // One step of a thread at `at`, over the word that it is about; `fails`: where that is a weak exchange, it
 // fails; `anyone`: whether somebody is asleep on the word.
-pub fn decide(at: RwLockAt, fails: bool, word: u32, anyone: bool) -> RwLockStep
+pub fn decide(at: RwLockAt, fails: bool, word: u32, anyone: bool) -> Step<RwLockAt>
     ensures { result ≡ decide_of at fails word anyone }
 {
     match at {
-        RwLockAt::Read { at: p } => read(p, fails, word),
-        RwLockAt::TryRead { at: p } => try_read(p, fails, word),
+        RwLockAt::Read { at } => read(at, fails, word),
+        RwLockAt::TryRead { at } => try_read(at, fails, word),
         RwLockAt::ReadUnlock => read_unlock(word),
-        RwLockAt::Write { at: p } => write(p, fails, word),
-        RwLockAt::TryWrite { at: p } => try_write(p, fails, word),
+        RwLockAt::Write { at } => write(at, fails, word),
+        RwLockAt::TryWrite { at } => try_write(at, fails, word),
         RwLockAt::WriteUnlock => write_unlock(word),
-        RwLockAt::Wake { writer, at: p } => wake_writer_or_readers(writer, p, word, anyone),
-        RwLockAt::Downgrade { at: p } => downgrade(p, word),
+        RwLockAt::Wake { writer, at } => wake_writer_or_readers(writer, at, word, anyone),
+        RwLockAt::Downgrade { at } => downgrade(at, word),
     }
 }
 
@@ -851,24 +465,11 @@ fn read_after_wait(at: ReadAt) -> ReadAt
     ensures { result ≡ read_after_wait at }
 {
     match at {
-        ReadAt::Load => ReadAt::Load,
-        ReadAt::Exchange { seen } => ReadAt::Exchange { seen: seen },
-        ReadAt::Spin { slept, left } => ReadAt::Spin {
-            slept: slept,
-            left: left,
-        },
-        ReadAt::ExchangeContended { slept, seen } => ReadAt::ExchangeContended {
-            slept: slept,
-            seen: seen,
-        },
-        ReadAt::SetWaiting { slept, seen } => ReadAt::SetWaiting {
-            slept: slept,
-            seen: seen,
-        },
-        ReadAt::Wait { seen: _ } => ReadAt::Spin {
+        ReadAt::Wait { .. } => ReadAt::Spin {
             slept: true,
-            left: words::SPINS,
+            left: SPINS,
         },
+        other => other,
     }
 }
 
@@ -876,25 +477,11 @@ fn write_after_wait(at: WriteAt) -> WriteAt
     ensures { result ≡ write_after_wait at }
 {
     match at {
-        WriteAt::Exchange => WriteAt::Exchange,
-        WriteAt::Spin { others, left } => WriteAt::Spin {
-            others: others,
-            left: left,
-        },
-        WriteAt::ExchangeContended { others, seen } => WriteAt::ExchangeContended {
-            others: others,
-            seen: seen,
-        },
-        WriteAt::SetWaiting { others, seen } => WriteAt::SetWaiting {
-            others: others,
-            seen: seen,
-        },
-        WriteAt::LoadSequence => WriteAt::LoadSequence,
-        WriteAt::LoadState { sequence } => WriteAt::LoadState { sequence: sequence },
-        WriteAt::Wait { sequence: _ } => WriteAt::Spin {
+        WriteAt::Wait { .. } => WriteAt::Spin {
             others: true,
-            left: words::SPINS,
+            left: SPINS,
         },
+        other => other,
     }
 }
 
@@ -903,21 +490,13 @@ pub fn after_wait(at: RwLockAt) -> RwLockAt
     ensures { result ≡ after_wait at }
 {
     match at {
-        RwLockAt::Read { at: p } => RwLockAt::Read {
-            at: read_after_wait(p),
+        RwLockAt::Read { at } => RwLockAt::Read {
+            at: read_after_wait(at),
         },
-        RwLockAt::TryRead { at: p } => RwLockAt::TryRead { at: p },
-        RwLockAt::ReadUnlock => RwLockAt::ReadUnlock,
-        RwLockAt::Write { at: p } => RwLockAt::Write {
-            at: write_after_wait(p),
+        RwLockAt::Write { at } => RwLockAt::Write {
+            at: write_after_wait(at),
         },
-        RwLockAt::TryWrite { at: p } => RwLockAt::TryWrite { at: p },
-        RwLockAt::WriteUnlock => RwLockAt::WriteUnlock,
-        RwLockAt::Wake { writer, at: p } => RwLockAt::Wake {
-            writer: writer,
-            at: p,
-        },
-        RwLockAt::Downgrade { at: p } => RwLockAt::Downgrade { at: p },
+        other => other,
     }
 }
 
@@ -925,13 +504,8 @@ fn write_operand(at: WriteAt) -> Kind
     ensures { result ≡ write_operand at }
 {
     match at {
-        WriteAt::Exchange => Kind::RwLock,
-        WriteAt::Spin { others: _, left: _ } => Kind::RwLock,
-        WriteAt::ExchangeContended { others: _, seen: _ } => Kind::RwLock,
-        WriteAt::SetWaiting { others: _, seen: _ } => Kind::RwLock,
-        WriteAt::LoadSequence => Kind::WriterNotify,
-        WriteAt::LoadState { sequence: _ } => Kind::RwLock,
-        WriteAt::Wait { sequence: _ } => Kind::WriterNotify,
+        WriteAt::LoadSequence | WriteAt::Wait { .. } => Kind::WriterNotify,
+        _ => Kind::RwLock,
     }
 }
 
@@ -939,12 +513,8 @@ fn wake_operand(at: WakeAt) -> Kind
     ensures { result ≡ wake_operand at }
 {
     match at {
-        WakeAt::ExchangeWriters => Kind::RwLock,
-        WakeAt::ExchangeBoth => Kind::RwLock,
-        WakeAt::Notify { both: _ } => Kind::WriterNotify,
-        WakeAt::WakeWriter { both: _ } => Kind::WriterNotify,
-        WakeAt::ExchangeReaders => Kind::RwLock,
-        WakeAt::WakeReaders => Kind::RwLock,
+        WakeAt::Notify { .. } | WakeAt::WakeWriter { .. } => Kind::WriterNotify,
+        _ => Kind::RwLock,
     }
 }
 
@@ -953,51 +523,31 @@ pub fn operand(at: RwLockAt) -> Kind
     ensures { result ≡ operand_of at }
 {
     match at {
-        RwLockAt::Read { at: _ } => Kind::RwLock,
-        RwLockAt::TryRead { at: _ } => Kind::RwLock,
-        RwLockAt::ReadUnlock => Kind::RwLock,
-        RwLockAt::Write { at: p } => write_operand(p),
-        RwLockAt::TryWrite { at: _ } => Kind::RwLock,
-        RwLockAt::WriteUnlock => Kind::RwLock,
-        RwLockAt::Wake { writer: _, at: p } => wake_operand(p),
-        RwLockAt::Downgrade { at: _ } => Kind::RwLock,
+        RwLockAt::Write { at } => write_operand(at),
+        RwLockAt::Wake { at, .. } => wake_operand(at),
+        _ => Kind::RwLock,
     }
 }
 
 fn read_weak_next(at: ReadAt) -> bool
     ensures { result ≡ read_weak_next at }
 {
-    match at {
-        ReadAt::Load => false,
-        ReadAt::Exchange { seen: _ } => true,
-        ReadAt::Spin { slept: _, left: _ } => false,
-        ReadAt::ExchangeContended { slept: _, seen: _ } => true,
-        ReadAt::SetWaiting { slept: _, seen: _ } => false,
-        ReadAt::Wait { seen: _ } => false,
-    }
+    matches!(
+        at,
+        ReadAt::Exchange { .. } | ReadAt::ExchangeContended { .. }
+    )
 }
 
 fn try_weak_next(at: TryAt) -> bool
     ensures { result ≡ try_weak_next at }
 {
-    match at {
-        TryAt::Load => false,
-        TryAt::Exchange { seen: _ } => true,
-    }
+    matches!(at, TryAt::Exchange { .. })
 }
 
 fn write_weak_next(at: WriteAt) -> bool
     ensures { result ≡ write_weak_next at }
 {
-    match at {
-        WriteAt::Exchange => true,
-        WriteAt::Spin { others: _, left: _ } => false,
-        WriteAt::ExchangeContended { others: _, seen: _ } => true,
-        WriteAt::SetWaiting { others: _, seen: _ } => false,
-        WriteAt::LoadSequence => false,
-        WriteAt::LoadState { sequence: _ } => false,
-        WriteAt::Wait { sequence: _ } => false,
-    }
+    matches!(at, WriteAt::Exchange | WriteAt::ExchangeContended { .. })
 }
 
 // Whether the next operation is a weak exchange.
@@ -1005,14 +555,10 @@ pub fn weak_next(at: RwLockAt) -> bool
     ensures { result ≡ weak_next at }
 {
     match at {
-        RwLockAt::Read { at: p } => read_weak_next(p),
-        RwLockAt::TryRead { at: p } => try_weak_next(p),
-        RwLockAt::ReadUnlock => false,
-        RwLockAt::Write { at: p } => write_weak_next(p),
-        RwLockAt::TryWrite { at: p } => try_weak_next(p),
-        RwLockAt::WriteUnlock => false,
-        RwLockAt::Wake { writer: _, at: _ } => false,
-        RwLockAt::Downgrade { at: _ } => false,
+        RwLockAt::Read { at } => read_weak_next(at),
+        RwLockAt::TryRead { at } | RwLockAt::TryWrite { at } => try_weak_next(at),
+        RwLockAt::Write { at } => write_weak_next(at),
+        _ => false,
     }
 }
 
@@ -1020,37 +566,23 @@ pub fn weak_next(at: RwLockAt) -> bool
 fn must_wait(slept: bool, seen: u32) -> bool
     ensures { result ≡ must_wait slept seen }
 {
-    let may = may_read(slept, seen);
-    if may {
-        return false;
-    }
-    let most = RwLockWord::has_reached_max_readers(seen);
-    if most {
-        return false;
-    }
-    !RwLockWord::has_readers_waiting(seen)
+    !may_read(slept, seen)
+        && !RwLockWord::has_reached_max_readers(seen)
+        && !RwLockWord::has_readers_waiting(seen)
 }
 
 // What a reader waits on.
 fn read_waits_on(seen: u32) -> bool
     ensures { result ≡ read_waits seen }
 {
-    let readers = RwLockWord::has_readers_waiting(seen);
-    if readers {
-        return !RwLockWord::has_reached_max_readers(seen);
-    }
-    false
+    RwLockWord::has_readers_waiting(seen) && !RwLockWord::has_reached_max_readers(seen)
 }
 
 // What a writer has seen that goes on to set the writers waiting bit.
 fn write_must_wait(seen: u32) -> bool
     ensures { result ≡ write_waits seen }
 {
-    let free = RwLockWord::is_unlocked(seen);
-    if free {
-        return false;
-    }
-    !RwLockWord::has_writers_waiting(seen)
+    !RwLockWord::is_unlocked(seen) && !RwLockWord::has_writers_waiting(seen)
 }
 
 fn read_passed(at: ReadAt) -> bool
@@ -1059,7 +591,7 @@ fn read_passed(at: ReadAt) -> bool
     match at {
         ReadAt::Load => true,
         ReadAt::Exchange { seen } => RwLockWord::is_read_lockable(seen),
-        ReadAt::Spin { slept: _, left } => left <= words::SPINS,
+        ReadAt::Spin { left, .. } => left <= SPINS,
         ReadAt::ExchangeContended { slept, seen } => may_read(slept, seen),
         ReadAt::SetWaiting { slept, seen } => must_wait(slept, seen),
         ReadAt::Wait { seen } => read_waits_on(seen),
@@ -1079,13 +611,10 @@ fn write_passed(at: WriteAt) -> bool
     ensures { result ≡ write_passed at }
 {
     match at {
-        WriteAt::Exchange => true,
-        WriteAt::Spin { others: _, left } => left <= words::SPINS,
-        WriteAt::ExchangeContended { others: _, seen } => RwLockWord::is_unlocked(seen),
-        WriteAt::SetWaiting { others: _, seen } => write_must_wait(seen),
-        WriteAt::LoadSequence => true,
-        WriteAt::LoadState { sequence: _ } => true,
-        WriteAt::Wait { sequence: _ } => true,
+        WriteAt::Spin { left, .. } => left <= SPINS,
+        WriteAt::ExchangeContended { seen, .. } => RwLockWord::is_unlocked(seen),
+        WriteAt::SetWaiting { seen, .. } => write_must_wait(seen),
+        _ => true,
     }
 }
 
@@ -1103,24 +632,11 @@ pub fn passed(at: RwLockAt) -> bool
     ensures { result ≡ passed_of at }
 {
     match at {
-        RwLockAt::Read { at: p } => read_passed(p),
-        RwLockAt::TryRead { at: p } => try_read_passed(p),
-        RwLockAt::ReadUnlock => true,
-        RwLockAt::Write { at: p } => write_passed(p),
-        RwLockAt::TryWrite { at: p } => try_write_passed(p),
-        RwLockAt::WriteUnlock => true,
-        RwLockAt::Wake { writer: _, at: _ } => true,
-        RwLockAt::Downgrade { at: _ } => true,
-    }
-}
-
-fn downgrade_needs(at: DowngradeAt) -> Needs
-    ensures { result ≡ downgrade_needs at }
-{
-    match at {
-        DowngradeAt::Add => Needs::Write,
-        DowngradeAt::Subtract => Needs::Nothing,
-        DowngradeAt::WakeReaders => Needs::Nothing,
+        RwLockAt::Read { at } => read_passed(at),
+        RwLockAt::TryRead { at } => try_read_passed(at),
+        RwLockAt::Write { at } => write_passed(at),
+        RwLockAt::TryWrite { at } => try_write_passed(at),
+        _ => true,
     }
 }
 
@@ -1129,42 +645,32 @@ pub fn needs(at: RwLockAt) -> Needs
     ensures { result ≡ needs_of at }
 {
     match at {
-        RwLockAt::Read { at: _ } => Needs::Nothing,
-        RwLockAt::TryRead { at: _ } => Needs::Nothing,
         RwLockAt::ReadUnlock => Needs::Read,
-        RwLockAt::Write { at: _ } => Needs::Nothing,
-        RwLockAt::TryWrite { at: _ } => Needs::Nothing,
         RwLockAt::WriteUnlock => Needs::Write,
-        RwLockAt::Wake { writer: _, at: _ } => Needs::Nothing,
-        RwLockAt::Downgrade { at: p } => downgrade_needs(p),
+        RwLockAt::Downgrade { at } => downgrade_needs(at),
+        _ => Needs::Nothing,
+    }
+}
+
+fn downgrade_needs(at: DowngradeAt) -> Needs
+    ensures { result ≡ downgrade_needs at }
+{
+    match at {
+        DowngradeAt::Add => Needs::Write,
+        DowngradeAt::Subtract | DowngradeAt::WakeReaders => Needs::Nothing,
     }
 }
 
 fn read_wait_next(at: ReadAt) -> bool
     ensures { result ≡ read_wait_next at }
 {
-    match at {
-        ReadAt::Load => false,
-        ReadAt::Exchange { seen: _ } => false,
-        ReadAt::Spin { slept: _, left: _ } => false,
-        ReadAt::ExchangeContended { slept: _, seen: _ } => false,
-        ReadAt::SetWaiting { slept: _, seen: _ } => false,
-        ReadAt::Wait { seen: _ } => true,
-    }
+    matches!(at, ReadAt::Wait { .. })
 }
 
 fn write_wait_next(at: WriteAt) -> bool
     ensures { result ≡ write_wait_next at }
 {
-    match at {
-        WriteAt::Exchange => false,
-        WriteAt::Spin { others: _, left: _ } => false,
-        WriteAt::ExchangeContended { others: _, seen: _ } => false,
-        WriteAt::SetWaiting { others: _, seen: _ } => false,
-        WriteAt::LoadSequence => false,
-        WriteAt::LoadState { sequence: _ } => false,
-        WriteAt::Wait { sequence: _ } => true,
-    }
+    matches!(at, WriteAt::Wait { .. })
 }
 
 // Whether the next operation is a futex_wait: a sleeper stands at one.
@@ -1172,38 +678,22 @@ pub fn waits(at: RwLockAt) -> bool
     ensures { result ≡ waits_of at }
 {
     match at {
-        RwLockAt::Read { at: p } => read_wait_next(p),
-        RwLockAt::TryRead { at: _ } => false,
-        RwLockAt::ReadUnlock => false,
-        RwLockAt::Write { at: p } => write_wait_next(p),
-        RwLockAt::TryWrite { at: _ } => false,
-        RwLockAt::WriteUnlock => false,
-        RwLockAt::Wake { writer: _, at: _ } => false,
-        RwLockAt::Downgrade { at: _ } => false,
+        RwLockAt::Read { at } => read_wait_next(at),
+        RwLockAt::Write { at } => write_wait_next(at),
+        _ => false,
     }
 }
 
 fn wake_may_wake(at: WakeAt) -> bool
     ensures { result ≡ wake_may_wake at }
 {
-    match at {
-        WakeAt::ExchangeWriters => false,
-        WakeAt::ExchangeBoth => false,
-        WakeAt::Notify { both: _ } => false,
-        WakeAt::WakeWriter { both: _ } => true,
-        WakeAt::ExchangeReaders => false,
-        WakeAt::WakeReaders => true,
-    }
+    matches!(at, WakeAt::WakeWriter { .. } | WakeAt::WakeReaders)
 }
 
 fn downgrade_may_wake(at: DowngradeAt) -> bool
     ensures { result ≡ downgrade_may_wake at }
 {
-    match at {
-        DowngradeAt::Add => false,
-        DowngradeAt::Subtract => false,
-        DowngradeAt::WakeReaders => true,
-    }
+    matches!(at, DowngradeAt::WakeReaders)
 }
 
 // Whether the next operation may wake a sleeper.
@@ -1211,13 +701,8 @@ pub fn may_wake(at: RwLockAt) -> bool
     ensures { result ≡ may_wake at }
 {
     match at {
-        RwLockAt::Read { at: _ } => false,
-        RwLockAt::TryRead { at: _ } => false,
-        RwLockAt::ReadUnlock => false,
-        RwLockAt::Write { at: _ } => false,
-        RwLockAt::TryWrite { at: _ } => false,
-        RwLockAt::WriteUnlock => false,
-        RwLockAt::Wake { writer: _, at: p } => wake_may_wake(p),
-        RwLockAt::Downgrade { at: p } => downgrade_may_wake(p),
+        RwLockAt::Wake { at, .. } => wake_may_wake(at),
+        RwLockAt::Downgrade { at } => downgrade_may_wake(at),
+        _ => false,
     }
 }

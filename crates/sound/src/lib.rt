@@ -47,14 +47,14 @@ fn stands_as(th: Thread, times: usize) -> bool
 fn every_sleeper_stands(w: &World) -> bool
     ensures { result ≡ every_sleeper_stands w.now.threads w.now.sleepers }
 {
-    (0..THREADS as u8).all(|t| stands_as(w.thread(t), queue::occurrences(w.sleepers, t)))
+    (0..THREADS as u8).all(|t| stands_as(w.thread(t), w.sleepers.occurrences(t)))
 }
 
 // Each sleeper stands at a futex_wait and once in the row, and nobody else stands there.
 pub fn sleepers_stand(w: World) -> bool
     ensures { result ≡ sleepers_stand w }
 {
-    queue::is_tidy(w.sleepers) && every_sleeper_stands(&w) && w.sleepers.count == asleep_count(&w)
+    w.sleepers.is_tidy() && every_sleeper_stands(&w) && w.sleepers.count == asleep_count(&w)
 }
 
 fn mutexes_in_range(w: &World) -> bool

@@ -8,7 +8,6 @@ use Rattle.queue.specs.declared.Row.{Row}
 use Rattle.calls.specs.declared.At.{At}
 use Rattle.once.specs.declared.Ending.{Ending}
 use Rattle.world.specs.declared.World.{World}
-use Rattle.world.specs.Holds.{mutex_slot, lock_slot}
 use lib.ListN.{set}
 use Rattle.step.specs.Step.{locked_after, written_after, reads_after, slept_row, step_of}
 use Rattle.step.specs.Acts.{begin_of, wake_of, close_of}
@@ -36,12 +35,6 @@ written-after-determined hold b = determined (written_after hold b)
 
 pub reads-after-determined : (hold : Hold) (n : ℕ) → Determined (reads_after hold n)
 reads-after-determined hold n = determined (reads_after hold n)
-
-pub mutex-slot-determined : (t object : ℕ) → Determined (mutex_slot t object)
-mutex-slot-determined t object = determined (mutex_slot t object)
-
-pub lock-slot-determined : (t object : ℕ) → Determined (lock_slot t object)
-lock-slot-determined t object = determined (lock_slot t object)
 
 pub slept-row-determined : (sleeps : Bool) (row : Row) (t : ℕ) → Determined (slept_row sleeps row t)
 slept-row-determined sleeps row t = determined (slept_row sleeps row t)

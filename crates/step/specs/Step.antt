@@ -6,8 +6,7 @@ use Rattle.words.specs.declared.Hold.TheVariants as H
 use Rattle.words.specs.declared.Wake.{Wake}
 use Rattle.words.specs.declared.Wake.TheVariants as W
 use Rattle.queue.specs.declared.Row.{Row}
-use Rattle.queue.specs.declared.Taken.{Taken}
-use Rattle.queue.specs.Row.{THREADS, queue_of, place_of, take_out_of, without_of, push_of}
+use Rattle.queue.specs.Row.{Taken, THREADS, queue_of, place_of, take_out_of, without_of, push_of}
 use Rattle.calls.specs.declared.Thread.{Thread}
 use Rattle.calls.specs.declared.Plan.{Plan}
 use Rattle.calls.specs.declared.Event.TheVariants as E
@@ -16,8 +15,6 @@ use Rattle.calls.specs.Objects.{WORDS}
 use Rattle.calls.specs.Plans.{awake, decide_of}
 use Rattle.calls.specs.Positions.{operand_of, after_wait}
 use Rattle.world.specs.declared.World.{World}
-use Rattle.step.specs.declared.Left.{Left}
-use Rattle.step.specs.declared.Woken.{Woken}
 use Rattle.step.specs.declared.Acted.{Acted}
 use Rattle.world.specs.World.{thread_at, word_at, sleeps_on, on_word, with_sleepers}
 use Rattle.world.specs.Holds.{mutex_slot, lock_slot}
@@ -31,6 +28,11 @@ unfoldable pub rouse_all : ℕ → ℕ → List Thread → List Thread
 rouse_all k t [] = []
 rouse_all k t (th ∷ ths) = cond (sleeps_on k t th) (roused th) th ∷ rouse_all k (t + 1) ths
 
+-- a world, and how many woke on the way to it
+pub record Woken : Type 0 where
+  pub world : World
+  pub count : ℕ
+
 -- a sleeper that was taken out of the row wakes; where none was, nobody does
 abbrev pub woken_one : World → Taken → Woken
 woken_one w taken =
@@ -41,15 +43,12 @@ woken_one w taken =
     })
     (record { world = w; count = 0 })
 
--- those who pass a test leave the row
-abbrev pub left_of : (ℕ → Bool) → Row → Left
-left_of f row = record { row = without_of f row; count = length (queue_of f row) }
-
 -- everyone on word k wakes
 abbrev pub woken_all : World → ℕ → Woken
-woken_all w k =
-    let left = left_of (on_word w.threads k) w.sleepers in
-    record { world = with_sleepers w (rouse_all k 0 w.threads) left.row; count = left.count }
+woken_all w k = record {
+  world = with_sleepers w (rouse_all k 0 w.threads) (without_of (on_word w.threads k) w.sleepers);
+  count = length (queue_of (on_word w.threads k) w.sleepers);
+}
 
 -- the wakes of a step on word k, with the place in the row of the longest asleep on it; past the row where nobody is
 unfoldable pub wakes_of : World → ℕ → ℕ → Wake → Woken

@@ -5,11 +5,8 @@
 
 mod names;
 mod order;
-mod phrase;
 mod position;
 mod rows;
-mod terms;
-mod text;
 
 use std::io;
 

@@ -1,228 +1,305 @@
-// The names of positions.
-use crate::phrase::{Phrase, bare, flagged, with_number, with_word};
-use crate::terms;
+// The names that the rows are made of.
 use condvar::{CondvarAt, NotifyAt};
 use mutex::{LockAt, MutexAt, UnlockAt};
-use once::{CallAt, OnceAt};
+use once::{CallAt, Ending, OnceAt};
 use rwlock::{DowngradeAt, ReadAt, RwLockAt, TryAt, WakeAt, WriteAt};
+use std::fmt;
 use thread_parking::{ParkAt, ParkerAt, UnparkAt};
+use words::{Hold, Kind, Next, Wake};
 
-fn either(so: bool, term: u8, other: u8) -> u8 {
-    if so {
-        return term;
-    }
-    other
+// What a row names: a position, by its call and its place in that, or a part of a step.
+pub trait Named {
+    fn name<W: fmt::Write>(&self, f: &mut fmt::Formatter<W>) -> fmt::Result;
 }
 
-// The mutex's own lock, or the one with which a wait ends.
-fn lock_name(call: u8, at: LockAt) -> Phrase {
-    match at {
-        LockAt::Exchange => bare(call, terms::EXCHANGE),
-        LockAt::Spin { left } => with_number(call, terms::SPIN, left),
-        LockAt::ExchangeAgain => bare(call, terms::EXCHANGE_AGAIN),
-        LockAt::Swap => bare(call, terms::SWAP),
-        LockAt::Wait => bare(call, terms::WAIT),
-        LockAt::SpinAgain { left } => with_number(call, terms::SPIN_AGAIN, left),
+// Shown by its name.
+#[derive(Clone, Copy)]
+pub struct Name<A>(pub A);
+
+impl<A: Named> fmt::Display for Name<A> {
+    fn fmt<W: fmt::Write>(&self, f: &mut fmt::Formatter<W>) -> fmt::Result {
+        self.0.name(f)
     }
 }
 
-fn unlock_name(at: UnlockAt) -> Phrase {
-    match at {
-        UnlockAt::Swap => bare(terms::UNLOCK, terms::SWAP),
-        UnlockAt::Wake => bare(terms::UNLOCK, terms::WAKE),
+impl Named for Kind {
+    fn name<W: fmt::Write>(&self, f: &mut fmt::Formatter<W>) -> fmt::Result {
+        f.write_str(match self {
+            Kind::Nothing => "nothing",
+            Kind::Mutex => "mutex",
+            Kind::RwLock => "rwlock",
+            Kind::WriterNotify => "writer_notify",
+            Kind::Condvar => "condvar",
+            Kind::Once => "once",
+            Kind::Parker => "parker",
+        })
     }
 }
 
-pub fn mutex_name(at: MutexAt) -> Phrase {
-    match at {
-        MutexAt::Lock { at: p } => lock_name(terms::LOCK, p),
-        MutexAt::TryLock => bare(terms::TRY_LOCK, terms::EXCHANGE),
-        MutexAt::Unlock { at: p } => unlock_name(p),
-    }
-}
-
-fn park_name(at: ParkAt) -> Phrase {
-    match at {
-        ParkAt::Subtract => bare(terms::PARK, terms::SUBTRACT),
-        ParkAt::Wait => bare(terms::PARK, terms::WAIT),
-        ParkAt::Exchange => bare(terms::PARK, terms::EXCHANGE),
-    }
-}
-
-fn unpark_name(at: UnparkAt) -> Phrase {
-    match at {
-        UnparkAt::Swap => bare(terms::UNPARK, terms::SWAP),
-        UnparkAt::Wake => bare(terms::UNPARK, terms::WAKE),
-    }
-}
-
-pub fn parker_name(at: ParkerAt) -> Phrase {
-    match at {
-        ParkerAt::Park { at: p } => park_name(p),
-        ParkerAt::Unpark { thread: _, at: p } => unpark_name(p),
-    }
-}
-
-// The mutex's unlock in a wait, which carries the sequence that it is to wait on.
-fn wait_unlock_name(sequence: u32, at: UnlockAt) -> Phrase {
-    match at {
-        UnlockAt::Swap => with_word(terms::CONDVAR_WAIT, terms::UNLOCK_SWAP, sequence),
-        UnlockAt::Wake => with_word(terms::CONDVAR_WAIT, terms::UNLOCK_WAKE, sequence),
-    }
-}
-
-fn condvar_wait_name(at: condvar::WaitAt) -> Phrase {
-    match at {
-        condvar::WaitAt::Load => bare(terms::CONDVAR_WAIT, terms::LOAD),
-        condvar::WaitAt::Unlock { sequence, at: p } => wait_unlock_name(sequence, p),
-        condvar::WaitAt::Wait { sequence } => {
-            with_word(terms::CONDVAR_WAIT, terms::WAIT, sequence)
-        }
-        condvar::WaitAt::Relock { at: p } => lock_name(terms::RELOCK, p),
-    }
-}
-
-fn notify_name(call: u8, at: NotifyAt) -> Phrase {
-    match at {
-        NotifyAt::Add => bare(call, terms::ADD),
-        NotifyAt::Wake => bare(call, terms::WAKE),
-    }
-}
-
-pub fn condvar_name(at: CondvarAt) -> Phrase {
-    match at {
-        CondvarAt::Wait { mutex: _, at: p } => condvar_wait_name(p),
-        CondvarAt::Notify { all, at: p } => {
-            notify_name(either(all, terms::NOTIFY_ALL, terms::NOTIFY_ONE), p)
+// Where a hold stays as it is, and where nobody is woken, there is nothing to name; else a space comes first.
+impl Named for Hold {
+    fn name<W: fmt::Write>(&self, f: &mut fmt::Formatter<W>) -> fmt::Result {
+        match self {
+            Hold::Same => Ok(()),
+            Hold::TakeMutex => f.write_str(" takes mutex"),
+            Hold::FreeMutex => f.write_str(" frees mutex"),
+            Hold::TakeRead => f.write_str(" takes read"),
+            Hold::FreeRead => f.write_str(" frees read"),
+            Hold::TakeWrite => f.write_str(" takes write"),
+            Hold::FreeWrite => f.write_str(" frees write"),
+            Hold::Downgrade => f.write_str(" turns write"),
         }
     }
 }
 
-fn call_name(call: u8, at: CallAt) -> Phrase {
-    match at {
-        CallAt::Load => bare(call, terms::LOAD),
-        CallAt::ExchangeRunning { seen } => with_word(call, terms::EXCHANGE_RUNNING, seen),
-        CallAt::Closure => bare(call, terms::CLOSURE),
-        CallAt::Swap { ending } => flagged(bare(call, terms::SWAP), true, terms::of_ending(ending)),
-        CallAt::WakeAll { panicking } => {
-            flagged(bare(call, terms::WAKE_ALL), panicking, terms::PANICKING)
+impl Named for Wake {
+    fn name<W: fmt::Write>(&self, f: &mut fmt::Formatter<W>) -> fmt::Result {
+        match self {
+            Wake::None => Ok(()),
+            Wake::One => f.write_str(" wakes one"),
+            Wake::All => f.write_str(" wakes all"),
         }
-        CallAt::ExchangeQueued { seen } => with_word(call, terms::EXCHANGE_QUEUED, seen),
-        CallAt::Wait { seen } => with_word(call, terms::WAIT, seen),
     }
 }
 
-fn once_wait_name(call: u8, at: once::WaitAt) -> Phrase {
-    match at {
-        once::WaitAt::Load => bare(call, terms::LOAD),
-        once::WaitAt::ExchangeQueued { seen } => with_word(call, terms::EXCHANGE_QUEUED, seen),
-        once::WaitAt::Wait { seen } => with_word(call, terms::WAIT, seen),
+impl Named for Ending {
+    fn name<W: fmt::Write>(&self, f: &mut fmt::Formatter<W>) -> fmt::Result {
+        f.write_str(match self {
+            Ending::Returned => "returned",
+            Ending::Poisoned => "poisoned",
+            Ending::Panicked => "panicked",
+        })
     }
 }
 
-pub fn once_name(at: OnceAt) -> Phrase {
-    match at {
-        OnceAt::Call { ignores, at: p } => {
-            call_name(
-                either(ignores, terms::ONCE_CALL_IGNORING, terms::ONCE_CALL),
-                p,
-            )
+// A flag of a place, with its space, where it is set.
+fn flag(is_set: bool, name: &'static str) -> &'static str {
+    if is_set { name } else { "" }
+}
+
+impl Named for LockAt {
+    fn name<W: fmt::Write>(&self, f: &mut fmt::Formatter<W>) -> fmt::Result {
+        match self {
+            LockAt::Exchange => f.write_str("exchange"),
+            LockAt::Spin { left } => write!(f, "spin {left}"),
+            LockAt::ExchangeAgain => f.write_str("exchange-again"),
+            LockAt::Swap => f.write_str("swap"),
+            LockAt::Wait => f.write_str("wait"),
+            LockAt::SpinAgain { left } => write!(f, "spin-again {left}"),
         }
-        OnceAt::Wait { ignores, at: p } => {
-            once_wait_name(
-                either(ignores, terms::ONCE_WAIT_IGNORING, terms::ONCE_WAIT),
-                p,
-            )
-        }
-        OnceAt::IsCompleted => bare(terms::IS_COMPLETED, terms::LOAD),
     }
 }
 
-fn slept_word(place: u8, slept: bool, word: u32) -> Phrase {
-    flagged(with_word(terms::READ, place, word), slept, terms::SLEPT)
-}
-
-fn read_name(at: ReadAt) -> Phrase {
-    match at {
-        ReadAt::Load => bare(terms::READ, terms::LOAD),
-        ReadAt::Exchange { seen } => with_word(terms::READ, terms::EXCHANGE, seen),
-        ReadAt::Spin { slept, left } => {
-            flagged(
-                with_number(terms::READ, terms::SPIN, left),
-                slept,
-                terms::SLEPT,
-            )
-        }
-        ReadAt::ExchangeContended { slept, seen } => {
-            slept_word(terms::EXCHANGE_CONTENDED, slept, seen)
-        }
-        ReadAt::SetWaiting { slept, seen } => slept_word(terms::SET_WAITING, slept, seen),
-        ReadAt::Wait { seen } => with_word(terms::READ, terms::WAIT, seen),
+impl Named for UnlockAt {
+    fn name<W: fmt::Write>(&self, f: &mut fmt::Formatter<W>) -> fmt::Result {
+        f.write_str(match self {
+            UnlockAt::Swap => "swap",
+            UnlockAt::Wake => "wake",
+        })
     }
 }
 
-fn try_name(call: u8, at: TryAt) -> Phrase {
-    match at {
-        TryAt::Load => bare(call, terms::LOAD),
-        TryAt::Exchange { seen } => with_word(call, terms::EXCHANGE, seen),
+impl Named for MutexAt {
+    fn name<W: fmt::Write>(&self, f: &mut fmt::Formatter<W>) -> fmt::Result {
+        match self {
+            MutexAt::Lock { at } => write!(f, "mutex lock {}", Name(*at)),
+            MutexAt::TryLock => f.write_str("mutex try_lock exchange"),
+            MutexAt::Unlock { at } => write!(f, "mutex unlock {}", Name(*at)),
+        }
     }
 }
 
-fn others_word(place: u8, others: bool, word: u32) -> Phrase {
-    flagged(with_word(terms::WRITE, place, word), others, terms::OTHERS)
+impl Named for ParkerAt {
+    fn name<W: fmt::Write>(&self, f: &mut fmt::Formatter<W>) -> fmt::Result {
+        match self {
+            ParkerAt::Park { at } => {
+                let place = match at {
+                    ParkAt::Subtract => "subtract",
+                    ParkAt::Wait => "wait",
+                    ParkAt::Exchange => "exchange",
+                };
+                write!(f, "parker park {place}")
+            }
+            ParkerAt::Unpark { at, .. } => {
+                let place = match at {
+                    UnparkAt::Swap => "swap",
+                    UnparkAt::Wake => "wake",
+                };
+                write!(f, "parker unpark {place}")
+            }
+        }
+    }
 }
 
-fn write_name(at: WriteAt) -> Phrase {
-    match at {
-        WriteAt::Exchange => bare(terms::WRITE, terms::EXCHANGE),
-        WriteAt::Spin { others, left } => {
-            flagged(
-                with_number(terms::WRITE, terms::SPIN, left),
-                others,
-                terms::OTHERS,
-            )
+// The mutex's unlock in a wait carries the sequence that is then waited on.
+impl Named for condvar::WaitAt {
+    fn name<W: fmt::Write>(&self, f: &mut fmt::Formatter<W>) -> fmt::Result {
+        match self {
+            condvar::WaitAt::Load => f.write_str("load"),
+            condvar::WaitAt::Unlock { sequence, at } => {
+                write!(f, "unlock {} {sequence:08X}", Name(*at))
+            }
+            condvar::WaitAt::Wait { sequence } => write!(f, "wait {sequence:08X}"),
+            condvar::WaitAt::Relock { at } => write!(f, "relock {}", Name(*at)),
         }
-        WriteAt::ExchangeContended { others, seen } => {
-            others_word(terms::EXCHANGE_CONTENDED, others, seen)
+    }
+}
+
+impl Named for CondvarAt {
+    fn name<W: fmt::Write>(&self, f: &mut fmt::Formatter<W>) -> fmt::Result {
+        match self {
+            CondvarAt::Wait { at, .. } => write!(f, "condvar wait {}", Name(*at)),
+            CondvarAt::Notify { all, at } => {
+                let call = if *all { "notify_all" } else { "notify_one" };
+                let place = match at {
+                    NotifyAt::Add => "add",
+                    NotifyAt::Wake => "wake",
+                };
+                write!(f, "condvar {call} {place}")
+            }
         }
-        WriteAt::SetWaiting { others, seen } => others_word(terms::SET_WAITING, others, seen),
-        WriteAt::LoadSequence => bare(terms::WRITE, terms::LOAD_SEQUENCE),
-        WriteAt::LoadState { sequence } => with_word(terms::WRITE, terms::LOAD_STATE, sequence),
-        WriteAt::Wait { sequence } => with_word(terms::WRITE, terms::WAIT, sequence),
+    }
+}
+
+impl Named for CallAt {
+    fn name<W: fmt::Write>(&self, f: &mut fmt::Formatter<W>) -> fmt::Result {
+        match self {
+            CallAt::Load => f.write_str("load"),
+            CallAt::ExchangeRunning { seen } => write!(f, "exchange-running {seen:08X}"),
+            CallAt::Closure => f.write_str("closure"),
+            CallAt::Swap { ending } => write!(f, "swap {}", Name(*ending)),
+            CallAt::WakeAll { panicking } => {
+                write!(f, "wake-all{}", flag(*panicking, " panicking"))
+            }
+            CallAt::ExchangeQueued { seen } => write!(f, "exchange-queued {seen:08X}"),
+            CallAt::Wait { seen } => write!(f, "wait {seen:08X}"),
+        }
+    }
+}
+
+impl Named for once::WaitAt {
+    fn name<W: fmt::Write>(&self, f: &mut fmt::Formatter<W>) -> fmt::Result {
+        match self {
+            once::WaitAt::Load => f.write_str("load"),
+            once::WaitAt::ExchangeQueued { seen } => write!(f, "exchange-queued {seen:08X}"),
+            once::WaitAt::Wait { seen } => write!(f, "wait {seen:08X}"),
+        }
+    }
+}
+
+impl Named for OnceAt {
+    fn name<W: fmt::Write>(&self, f: &mut fmt::Formatter<W>) -> fmt::Result {
+        match self {
+            OnceAt::Call { ignores, at } => {
+                write!(f, "once call{} {}", flag(*ignores, "_ignoring"), Name(*at))
+            }
+            OnceAt::Wait { ignores, at } => {
+                write!(f, "once wait{} {}", flag(*ignores, "_ignoring"), Name(*at))
+            }
+            OnceAt::IsCompleted => f.write_str("once is_completed load"),
+        }
+    }
+}
+
+impl Named for ReadAt {
+    fn name<W: fmt::Write>(&self, f: &mut fmt::Formatter<W>) -> fmt::Result {
+        match self {
+            ReadAt::Load => f.write_str("load"),
+            ReadAt::Exchange { seen } => write!(f, "exchange {seen:08X}"),
+            ReadAt::Spin { slept, left } => write!(f, "spin{} {left}", flag(*slept, " slept")),
+            ReadAt::ExchangeContended { slept, seen } => {
+                write!(f, "exchange-contended{} {seen:08X}", flag(*slept, " slept"))
+            }
+            ReadAt::SetWaiting { slept, seen } => {
+                write!(f, "set-waiting{} {seen:08X}", flag(*slept, " slept"))
+            }
+            ReadAt::Wait { seen } => write!(f, "wait {seen:08X}"),
+        }
+    }
+}
+
+impl Named for TryAt {
+    fn name<W: fmt::Write>(&self, f: &mut fmt::Formatter<W>) -> fmt::Result {
+        match self {
+            TryAt::Load => f.write_str("load"),
+            TryAt::Exchange { seen } => write!(f, "exchange {seen:08X}"),
+        }
+    }
+}
+
+impl Named for WriteAt {
+    fn name<W: fmt::Write>(&self, f: &mut fmt::Formatter<W>) -> fmt::Result {
+        match self {
+            WriteAt::Exchange => f.write_str("exchange"),
+            WriteAt::Spin { others, left } => write!(f, "spin{} {left}", flag(*others, " others")),
+            WriteAt::ExchangeContended { others, seen } => {
+                write!(
+                    f,
+                    "exchange-contended{} {seen:08X}",
+                    flag(*others, " others")
+                )
+            }
+            WriteAt::SetWaiting { others, seen } => {
+                write!(f, "set-waiting{} {seen:08X}", flag(*others, " others"))
+            }
+            WriteAt::LoadSequence => f.write_str("load-sequence"),
+            WriteAt::LoadState { sequence } => write!(f, "load-state {sequence:08X}"),
+            WriteAt::Wait { sequence } => write!(f, "wait {sequence:08X}"),
+        }
     }
 }
 
 // What follows the subtraction of either unlock.
-fn wake_name(call: u8, at: WakeAt) -> Phrase {
-    match at {
-        WakeAt::ExchangeWriters => bare(call, terms::EXCHANGE_WRITERS),
-        WakeAt::ExchangeBoth => bare(call, terms::EXCHANGE_BOTH),
-        WakeAt::Notify { both } => flagged(bare(call, terms::NOTIFY), both, terms::BOTH),
-        WakeAt::WakeWriter { both } => flagged(bare(call, terms::WAKE_WRITER), both, terms::BOTH),
-        WakeAt::ExchangeReaders => bare(call, terms::EXCHANGE_READERS),
-        WakeAt::WakeReaders => bare(call, terms::WAKE_READERS),
-    }
-}
-
-fn downgrade_name(at: DowngradeAt) -> Phrase {
-    match at {
-        DowngradeAt::Add => bare(terms::DOWNGRADE, terms::ADD),
-        DowngradeAt::Subtract => bare(terms::DOWNGRADE, terms::SUBTRACT),
-        DowngradeAt::WakeReaders => bare(terms::DOWNGRADE, terms::WAKE_READERS),
-    }
-}
-
-pub fn rwlock_name(at: RwLockAt) -> Phrase {
-    match at {
-        RwLockAt::Read { at: p } => read_name(p),
-        RwLockAt::TryRead { at: p } => try_name(terms::TRY_READ, p),
-        RwLockAt::ReadUnlock => bare(terms::READ_UNLOCK, terms::SUBTRACT),
-        RwLockAt::Write { at: p } => write_name(p),
-        RwLockAt::TryWrite { at: p } => try_name(terms::TRY_WRITE, p),
-        RwLockAt::WriteUnlock => bare(terms::WRITE_UNLOCK, terms::SUBTRACT),
-        RwLockAt::Wake { writer, at: p } => {
-            wake_name(either(writer, terms::WRITE_UNLOCK, terms::READ_UNLOCK), p)
+impl Named for WakeAt {
+    fn name<W: fmt::Write>(&self, f: &mut fmt::Formatter<W>) -> fmt::Result {
+        match self {
+            WakeAt::ExchangeWriters => f.write_str("exchange-writers"),
+            WakeAt::ExchangeBoth => f.write_str("exchange-both"),
+            WakeAt::Notify { both } => write!(f, "notify{}", flag(*both, " both")),
+            WakeAt::WakeWriter { both } => write!(f, "wake-writer{}", flag(*both, " both")),
+            WakeAt::ExchangeReaders => f.write_str("exchange-readers"),
+            WakeAt::WakeReaders => f.write_str("wake-readers"),
         }
-        RwLockAt::Downgrade { at: p } => downgrade_name(p),
+    }
+}
+
+impl Named for RwLockAt {
+    fn name<W: fmt::Write>(&self, f: &mut fmt::Formatter<W>) -> fmt::Result {
+        match self {
+            RwLockAt::Read { at } => write!(f, "rwlock read {}", Name(*at)),
+            RwLockAt::TryRead { at } => write!(f, "rwlock try_read {}", Name(*at)),
+            RwLockAt::ReadUnlock => f.write_str("rwlock read_unlock subtract"),
+            RwLockAt::Write { at } => write!(f, "rwlock write {}", Name(*at)),
+            RwLockAt::TryWrite { at } => write!(f, "rwlock try_write {}", Name(*at)),
+            RwLockAt::WriteUnlock => f.write_str("rwlock write_unlock subtract"),
+            RwLockAt::Wake { writer, at } => {
+                let call = if *writer { "write" } else { "read" };
+                write!(f, "rwlock {call}_unlock {}", Name(*at))
+            }
+            RwLockAt::Downgrade { at } => {
+                let place = match at {
+                    DowngradeAt::Add => "add",
+                    DowngradeAt::Subtract => "subtract",
+                    DowngradeAt::WakeReaders => "wake-readers",
+                };
+                write!(f, "rwlock downgrade {place}")
+            }
+        }
+    }
+}
+
+// How a step ends.
+impl<A: Named> Named for Next<A> {
+    fn name<W: fmt::Write>(&self, f: &mut fmt::Formatter<W>) -> fmt::Result {
+        match self {
+            Next::Moved(at) => {
+                f.write_str("moved ")?;
+                at.name(f)
+            }
+            Next::Asleep => f.write_str("slept"),
+            Next::Ended(value) => write!(f, "done {value}"),
+            Next::Panics(panic) => write!(f, "panic {}", panic.number()),
+            Next::Closure(_) => f.write_str("closure"),
+        }
     }
 }

@@ -1,10 +1,9 @@
 // The rows of the table: each is a position, what its operation finds, and what its step then does.
-use crate::phrase::Phrase;
-use crate::position::{About, Position, Step};
-use crate::text::Line;
-use crate::{names, phrase, position, terms, text};
+use crate::names::Name;
+use crate::position::Position;
 use once::{Ending, OnceAt};
-use std::io;
+use std::{fmt, io};
+use words::{Kind, Wake};
 
 // The words of interest, for any kind but an RwLock's state.
 const SMALL: [u32; 11] = [
@@ -52,91 +51,90 @@ const RWLOCK: [u32; 24] = [
 // Those of a lock that is write locked.
 pub const WRITE_LOCKED: [u32; 4] = [0x3FFF_FFFF, 0x7FFF_FFFF, 0xBFFF_FFFF, 0xFFFF_FFFF];
 
-// The row of one way that the step at the word `found` may go; `way` is the term that says which.
-fn step_row(rt: &impl Print, place: Line, found: u32, way: u8, step: Step) -> io::Result<()> {
-    let end = step.end;
-    let line = text::put_word(place, found);
-    let line = terms::put(line, way);
-    let line = text::put_colon(line);
-    let line = text::put_word(line, step.word);
-    let line = terms::put(line, step.hold);
-    let line = terms::put(line, step.wake);
-    text::write(rt, phrase::put(line, end))
+// Which way a step goes, where it has more than one.
+#[derive(Clone, Copy)]
+enum Way {
+    Only,
+    // a weak exchange fails, whatever it finds
+    Fails,
+    // of those asleep on the word of a wake of one there is nobody, or somebody
+    Nobody,
+    Somebody,
+}
+
+impl fmt::Display for Way {
+    fn fmt<W: fmt::Write>(&self, f: &mut fmt::Formatter<W>) -> fmt::Result {
+        f.write_str(match self {
+            Way::Only => "",
+            Way::Fails => " fails",
+            Way::Nobody => " nobody",
+            Way::Somebody => " somebody",
+        })
+    }
+}
+
+// The row of one way that the step at the word `found` may go.
+fn row<A: Position>(rt: &impl Print, at: A, found: u32, way: Way) -> io::Result<()> {
+    let fails = matches!(way, Way::Fails);
+    let anyone = matches!(way, Way::Somebody);
+    let step = at.decide(fails, found, anyone);
+    println!(rt;
+        "{} at {} {found:08X}{way}: {:08X}{}{} {}",
+        Name(at),
+        Name(at.operand()),
+        step.word,
+        Name(step.hold),
+        Name(step.wake),
+        Name(step.next),
+    )
 }
 
 // The row of each way that the step at the word `found` may go: a weak exchange may fail all the same, and
 // of those asleep on the word of a wake of one there may be nobody.
-fn word_rows(
-    rt: &impl Print,
-    place: Line,
-    position: Position,
-    weak: bool,
-    found: u32,
-) -> io::Result<()> {
-    let step = position::decide(position, false, found, false);
-    if weak {
-        step_row(rt, place, found, terms::NONE, step)?;
-        let failed = position::decide(position, true, found, false);
-        return step_row(rt, place, found, terms::FAILS, failed);
+fn word_rows<A: Position>(rt: &impl Print, at: A, found: u32) -> io::Result<()> {
+    if at.weak_next() {
+        row(rt, at, found, Way::Only)?;
+        return row(rt, at, found, Way::Fails);
     }
-    if step.wake == terms::WAKES_ONE {
-        step_row(rt, place, found, terms::NOBODY, step)?;
-        let woke = position::decide(position, false, found, true);
-        return step_row(rt, place, found, terms::SOMEBODY, woke);
+    match at.decide(false, found, false).wake {
+        Wake::One => {
+            row(rt, at, found, Way::Nobody)?;
+            row(rt, at, found, Way::Somebody)
+        }
+        Wake::None | Wake::All => row(rt, at, found, Way::Only),
     }
-    step_row(rt, place, found, terms::NONE, step)
-}
-
-// The row of where a call stands once what it waited for has come.
-fn after_row(rt: &impl Print, start: Line, how: u8, after: Phrase) -> io::Result<()> {
-    let line = terms::put(start, how);
-    let line = text::put_colon(line);
-    text::write(rt, phrase::put(line, after))
 }
 
 // The rows of a position at these words and, if it is a futex_wait, of where the call stands after that.
-pub fn rows_at(rt: &impl Print, about: About, words: &[u32]) -> io::Result<()> {
-    let position = about.position;
-    let name = about.name;
-    let after = about.after;
-    let start = phrase::put(text::empty(), name);
-    let place = terms::put(terms::put(start, terms::AT), about.kind);
-    let mut i = 0;
-    while i < words.len() {
-        word_rows(rt, place, position, about.weak, words[i])?;
-        i += 1;
+pub fn rows_at<A: Position>(rt: &impl Print, at: A, words: &[u32]) -> io::Result<()> {
+    for found in words {
+        word_rows(rt, at, *found)?;
     }
-    if about.waits {
-        after_row(rt, start, terms::WOKEN, after)?;
+    if at.waits() {
+        println!(rt; "{} woken: {}", Name(at), Name(at.after_wait()))?;
     }
     Ok(())
 }
 
 // All rows of a position, at the words of interest for the kind that its operation is about; none where there
 // is no operation.
-pub fn rows(rt: &impl Print, about: About) -> io::Result<()> {
-    if about.kind == terms::NONE {
-        return Ok(());
+pub fn rows<A: Position>(rt: &impl Print, at: A) -> io::Result<()> {
+    match at.operand() {
+        Kind::Nothing => Ok(()),
+        Kind::RwLock => rows_at(rt, at, &RWLOCK),
+        _ => rows_at(rt, at, &SMALL),
     }
-    if about.kind == terms::RWLOCK {
-        return rows_at(rt, about, &RWLOCK);
-    }
-    rows_at(rt, about, &SMALL)
-}
-
-fn closing_row(rt: &impl Print, start: Line, at: OnceAt, ending: Ending) -> io::Result<()> {
-    after_row(
-        rt,
-        start,
-        terms::of_ending(ending),
-        names::once_name(once::close(ending, at)),
-    )
 }
 
 // The rows of a closure, which ends in one of three ways.
 pub fn closing_rows(rt: &impl Print, at: OnceAt) -> io::Result<()> {
-    let start = phrase::put(text::empty(), names::once_name(at));
-    closing_row(rt, start, at, Ending::Returned)?;
-    closing_row(rt, start, at, Ending::Poisoned)?;
-    closing_row(rt, start, at, Ending::Panicked)
+    for ending in [Ending::Returned, Ending::Poisoned, Ending::Panicked] {
+        println!(rt;
+            "{} {}: {}",
+            Name(at),
+            Name(ending),
+            Name(once::close(ending, at))
+        )?;
+    }
+    Ok(())
 }

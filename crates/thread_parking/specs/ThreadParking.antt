@@ -1,12 +1,14 @@
 -- thread_parking/futex.rs, a step at a time, over the value that stands for PARKED. Assumes nothing.
 use Rattle.std.specs.Prelude.{ℕ, Bool, true, false, cond}
 use Rattle.words.specs.Parker.{EMPTY, NOTIFIED, is_parked, is_notified, less_one}
+use Rattle.words.specs.declared.Hold.TheVariants as H
 use Rattle.words.specs.declared.Kind.{Kind}
 use Rattle.words.specs.declared.Kind.TheVariants as K
 use Rattle.words.specs.declared.Needs.{Needs}
 use Rattle.words.specs.declared.Needs.TheVariants as N
-use Rattle.words.specs.declared.Wake.{Wake}
 use Rattle.words.specs.declared.Wake.TheVariants as W
+use Rattle.words.specs.declared.Step.{Step}
+use Rattle.words.specs.Steps.{moves, sleeps, ends}
 use Rattle.thread_parking.specs.declared.ParkerCall.{ParkerCall}
 use Rattle.thread_parking.specs.declared.ParkerCall.TheVariants as C
 use Rattle.thread_parking.specs.declared.ParkAt.{ParkAt}
@@ -15,23 +17,11 @@ use Rattle.thread_parking.specs.declared.UnparkAt.{UnparkAt}
 use Rattle.thread_parking.specs.declared.UnparkAt.TheVariants as U
 use Rattle.thread_parking.specs.declared.ParkerAt.{ParkerAt}
 use Rattle.thread_parking.specs.declared.ParkerAt.TheVariants as A
-use Rattle.thread_parking.specs.declared.ParkerNext.TheVariants as PN
-use Rattle.thread_parking.specs.declared.ParkerStep.{ParkerStep}
 
 -- where each call starts
 unfoldable pub entry_of : ParkerCall → ParkerAt
 entry_of C.Park = A.Park P.Subtract
 entry_of (C.Unpark thread) = A.Unpark thread U.Swap
-
--- a step leads on, sleeps, or ends the call; both calls return nothing, which is told as 1
-unfoldable pub moves : ℕ → ParkerAt → ParkerStep
-moves word at = record { word = word; next = PN.Moved at; wake = W.None }
-
-unfoldable pub sleeps : ℕ → ParkerStep
-sleeps word = record { word = word; next = PN.Asleep; wake = W.None }
-
-unfoldable pub ends : ℕ → Wake → ParkerStep
-ends word wake = record { word = word; next = PN.Ended 1; wake = wake }
 
 -- after a futex_wait, woken or not: the exchange of NOTIFIED for EMPTY
 unfoldable pub park_after_wait : ParkAt → ParkAt
@@ -39,20 +29,21 @@ park_after_wait P.Subtract = P.Subtract
 park_after_wait P.Wait = P.Exchange
 park_after_wait P.Exchange = P.Exchange
 
+-- both calls return nothing, which is told as 1
 -- `park`: NOTIFIED => EMPTY and return, or EMPTY => PARKED and wait; a wake-up without a token is spurious, and it loops
-unfoldable pub park_of : ℕ → ParkAt → ℕ → ParkerStep
+unfoldable pub park_of : ℕ → ParkAt → ℕ → Step ParkerAt
 park_of parked P.Subtract word =
-    cond (is_notified word) (ends (less_one parked word) W.None) (moves (less_one parked word) (A.Park P.Wait))
+    cond (is_notified word) (ends (less_one parked word) 1 H.Same W.None) (moves (less_one parked word) (A.Park P.Wait))
 park_of parked P.Wait word = cond (is_parked parked word) (sleeps word) (moves word (A.Park (park_after_wait P.Wait)))
-park_of parked P.Exchange word = cond (is_notified word) (ends EMPTY W.None) (moves word (A.Park P.Wait))
+park_of parked P.Exchange word = cond (is_notified word) (ends EMPTY 1 H.Same W.None) (moves word (A.Park P.Wait))
 
 -- `unpark`: anything => NOTIFIED, and a wake if it was PARKED
-unfoldable pub unpark_of : ℕ → ℕ → UnparkAt → ℕ → ParkerStep
-unpark_of parked thread U.Swap word = cond (is_parked parked word) (moves NOTIFIED (A.Unpark thread U.Wake)) (ends NOTIFIED W.None)
-unpark_of parked thread U.Wake word = ends word W.One
+unfoldable pub unpark_of : ℕ → ℕ → UnparkAt → ℕ → Step ParkerAt
+unpark_of parked thread U.Swap word = cond (is_parked parked word) (moves NOTIFIED (A.Unpark thread U.Wake)) (ends NOTIFIED 1 H.Same W.None)
+unpark_of parked thread U.Wake word = ends word 1 H.Same W.One
 
 -- one step, over the word of the Parker that it is about
-unfoldable pub decide_of : ℕ → ParkerAt → Bool → ℕ → Bool → ParkerStep
+unfoldable pub decide_of : ℕ → ParkerAt → Bool → ℕ → Bool → Step ParkerAt
 decide_of parked (A.Park p) fails word anyone = park_of parked p word
 decide_of parked (A.Unpark thread p) fails word anyone = unpark_of parked thread p word
 

@@ -1,10 +1,16 @@
 -- Every contract of this crate determines its result: any two results that it allows are equal. Assumes nothing.
-use Rattle.std.proofs.Common.{ℕ, Bool}
+use Rattle.std.proofs.Common.{ℕ, Bool, ◌≡◌, sym, ◌∙◌}
 use Rattle.words.specs.Determined.{Determined, determined}
 use Rattle.words.specs.Atomic.{exchanges, wrapping_add, wrapping_sub}
 use Rattle.words.specs.Counter.{incremented}
 use Rattle.words.specs.Mutex.{is_contended, is_locked, is_unlocked as is_mutex_unlocked}
+use Rattle.words.specs.declared.Hold.{Hold}
+use Rattle.words.specs.declared.Panic.{Panic}
+use Rattle.words.specs.declared.Step.{Step}
+use Rattle.words.specs.declared.Wake.{Wake}
+use Rattle.words.specs.Steps.{moves_with, moves, sleeps, ends, panics, enters, MapsStep, LeadsOn}
 use Rattle.words.specs.Once.{is_queued, state_of, running_with, with_queued}
+use Rattle.words.specs.Panic.{number_of}
 use Rattle.words.specs.Parker.{PARKED, is_notified, is_parked, less_one}
 use Rattle.words.specs.RwLock.{count, is_unlocked, is_write_locked, has_readers_waiting, has_writers_waiting, is_read_lockable, is_read_lockable_after_wakeup, has_reached_max_readers, read_locked, read_unlocked, write_locked, write_unlocked, downgraded, with_write_locked, with_readers_waiting, without_readers_waiting, with_writers_waiting}
 
@@ -100,3 +106,37 @@ RwLockWord-without-readers-waiting-determined state = determined (without_reader
 
 pub RwLockWord-with-writers-waiting-determined : (state : ℕ) → Determined (with_writers_waiting state)
 RwLockWord-with-writers-waiting-determined state = determined (with_writers_waiting state)
+
+pub Panic-number-determined : (panic : Panic) → Determined (number_of panic)
+Panic-number-determined panic = determined (number_of panic)
+
+-- of each position a step is made so
+module _ {A : Type 0} (word : ℕ) (at : A) where
+  pub Step-moves-with-determined : (hold : Hold) (wake : Wake) → Determined (moves_with word at hold wake)
+  Step-moves-with-determined hold wake = determined (moves_with word at hold wake)
+
+  pub Step-moves-determined : Determined (moves word at)
+  Step-moves-determined = determined (moves word at)
+
+  pub Step-enters-determined : Determined (enters word at)
+  Step-enters-determined = determined (enters word at)
+
+pub Step-sleeps-determined : {A : Type 0} (word : ℕ) → Determined {A = Step A} (sleeps word)
+Step-sleeps-determined word = determined (sleeps word)
+
+pub Step-ends-determined : {A : Type 0} (word : ℕ) (value : ℕ) (hold : Hold) (wake : Wake) → Determined {A = Step A} (ends word value hold wake)
+Step-ends-determined word value hold wake = determined (ends word value hold wake)
+
+pub Step-panics-determined : {A : Type 0} (word : ℕ) (panic : Panic) (wake : Wake) → Determined {A = Step A} (panics word panic wake)
+Step-panics-determined word panic wake = determined (panics word panic wake)
+
+-- with a closure that gives what a function gives, as each that this repository passes does
+pub Step-map-determined :
+    {A B : Type 0} (gives : A → B → Type 0) (s : Step A) (f : A → B) → ((a : A) (b : B) → gives a b → b ≡ f a) →
+    (t u : Step B) → MapsStep gives s t → MapsStep gives s u → t ≡ u
+Step-map-determined gives s f pure t u m n = m f pure ∙ sym (n f pure)
+
+pub Step-then-determined :
+    {A B : Type 0} (gives : A → B → Type 0) (after : B) (s : Step A) (f : A → B) → ((a : A) (b : B) → gives a b → b ≡ f a) →
+    (t u : Step B) → LeadsOn gives after s t → LeadsOn gives after s u → t ≡ u
+Step-then-determined gives after s f pure t u m n = m f pure ∙ sym (n f pure)

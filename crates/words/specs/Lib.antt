@@ -7,3 +7,4 @@ pub mod Once
 pub mod Panic
 pub mod Parker
 pub mod RwLock
+pub mod Steps

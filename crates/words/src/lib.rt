@@ -5,6 +5,8 @@
 ghost use Rattle.std.specs.Prelude.{◌≡◌};
 ghost use Rattle.words.specs.Atomic.{exchanges, wrapping_add, wrapping_sub};
 ghost use Rattle.words.specs.Counter.{incremented};
+ghost use Rattle.words.specs.Panic.{number_of};
+ghost use Rattle.words.specs.Steps.{moves_with, moves, sleeps, ends, panics, enters, MapsStep, LeadsOn};
 ghost use Rattle.words.specs.Mutex.{is_contended, is_locked, is_unlocked as is_mutex_unlocked};
 ghost use Rattle.words.specs.Once.{is_queued, state_of, running_with, with_queued};
 ghost use Rattle.words.specs.Parker.{PARKED, is_notified, is_parked, less_one};
@@ -56,19 +58,153 @@ pub enum Wake {
 // The spins of a thread that finds a lock taken, before it goes on to wait.
 pub const SPINS: u8 = 100;
 
-// The panics that a call can end with, by the numbers that they are told with.
-#[derive(Drop)]
-pub struct Panic;
+// The panics that a call can end with.
+#[derive(Clone, Copy, Debug, PartialEq, Eq)]
+pub enum Panic {
+    // "too many active read locks on RwLock"
+    TooManyReaders,
+    // "Once instance has previously been poisoned"
+    OncePoisoned,
+    // a Once's closure panicked
+    InClosure,
+}
 
 impl Panic {
-    // "too many active read locks on RwLock"
-    pub const TOO_MANY_READERS: u8 = 1;
+    // The number that the panic is told with.
+    pub fn number(self) -> u8
+        ensures { result ≡ number_of self }
+    {
+        match self {
+            Panic::TooManyReaders => 1,
+            Panic::OncePoisoned => 2,
+            Panic::InClosure => 3,
+        }
+    }
+}
 
-    // "Once instance has previously been poisoned"
-    pub const ONCE_POISONED: u8 = 2;
+// Where a step leads: on to a position of its module, to sleep where it stands, to the end of the call with
+// the value that is told, to a panic, or into a Once's closure.
+#[derive(Clone, Copy)]
+pub enum Next<A> {
+    Moved(A),
+    Asleep,
+    Ended(u8),
+    Panics(Panic),
+    Closure(A),
+}
 
-    // a Once's closure panicked
-    pub const CLOSURE: u8 = 3;
+// What a step does: the word's new value, where it leads, the hold that changes, and whom it wakes.
+#[derive(Clone, Copy)]
+pub struct Step<A> {
+    pub word: u32,
+    pub next: Next<A>,
+    pub hold: Hold,
+    pub wake: Wake,
+}
+
+impl<A: Copy + Drop> Step<A> {
+    pub fn moves_with(word: u32, at: A, hold: Hold, wake: Wake) -> Self
+        ensures { result ≡ moves_with word at hold wake }
+    {
+        let next = Next::Moved(at);
+        Step {
+            word,
+            next,
+            hold,
+            wake,
+        }
+    }
+
+    pub fn moves(word: u32, at: A) -> Self
+        ensures { result ≡ moves word at }
+    {
+        Step::moves_with(word, at, Hold::Same, Wake::None)
+    }
+
+    pub fn sleeps(word: u32) -> Self
+        ensures { result ≡ sleeps word }
+    {
+        Step {
+            word,
+            next: Next::Asleep,
+            hold: Hold::Same,
+            wake: Wake::None,
+        }
+    }
+
+    pub fn ends(word: u32, value: u8, hold: Hold, wake: Wake) -> Self
+        ensures { result ≡ ends word value hold wake }
+    {
+        let next = Next::Ended(value);
+        Step {
+            word,
+            next,
+            hold,
+            wake,
+        }
+    }
+
+    pub fn panics(word: u32, panic: Panic, wake: Wake) -> Self
+        ensures { result ≡ panics word panic wake }
+    {
+        Step {
+            word,
+            next: Next::Panics(panic),
+            hold: Hold::Same,
+            wake,
+        }
+    }
+
+    pub fn enters(word: u32, at: A) -> Self
+        ensures { result ≡ enters word at }
+    {
+        Step {
+            word,
+            next: Next::Closure(at),
+            hold: Hold::Same,
+            wake: Wake::None,
+        }
+    }
+
+    // .. as one of a greater call, in which its positions stand as `place` has them.
+    pub fn map<B, F: Fn(A) -> B>(self, place: F) -> Step<B>
+        requires { F.IsAlwaysCallable place }
+        ensures { MapsStep (F.post place) self result }
+    {
+        let next = match self.next {
+            Next::Moved(at) => Next::Moved(place(at)),
+            Next::Asleep => Next::Asleep,
+            Next::Ended(value) => Next::Ended(value),
+            Next::Panics(panic) => Next::Panics(panic),
+            Next::Closure(at) => Next::Closure(place(at)),
+        };
+        Step {
+            word: self.word,
+            next,
+            hold: self.hold,
+            wake: self.wake,
+        }
+    }
+
+    // .. that goes on at `after` where this one ends.
+    pub fn then<B: Copy + Drop, F: Fn(A) -> B>(self, place: F, after: B) -> Step<B>
+        requires { F.IsAlwaysCallable place }
+        ensures { LeadsOn (F.post place) after self result }
+    {
+        let next = match self.next {
+            Next::Moved(at) => Next::Moved(place(at)),
+            Next::Asleep => Next::Asleep,
+            Next::Ended(_) => Next::Moved(after),
+            Next::Panics(panic) => Next::Panics(panic),
+            Next::Closure(at) => Next::Closure(place(at)),
+        };
+        Step {
+            word: self.word,
+            next,
+            hold: self.hold,
+            wake: self.wake,
+        }
+    }
 }
 
 // Whether compare_exchange_weak(expected, ..) stores: the word is as expected, and the exchange does not
@@ -76,25 +212,21 @@ impl Panic {
 pub fn exchanges(word: u32, expected: u32, fails: bool) -> bool
     ensures { result ≡ exchanges word expected fails }
 {
-    let same = word == expected;
-    if same {
-        return !fails;
-    }
-    false
+    word == expected && !fails
 }
 
 // fetch_add, as what it stores: sums wrap.
 pub fn fetch_add(word: u32, n: u32) -> u32
     ensures { result ≡ wrapping_add word n }
 {
-    std::num::wrapping_add_u32(word, n)
+    word.wrapping_add(n)
 }
 
 // fetch_sub, as what it stores: differences wrap.
 pub fn fetch_sub(word: u32, n: u32) -> u32
     ensures { result ≡ wrapping_sub word n }
 {
-    std::num::wrapping_sub_u32(word, n)
+    word.wrapping_sub(n)
 }
 
 // The state of a mutex (001).
@@ -218,10 +350,7 @@ impl OnceWord {
     pub fn running(queued: bool) -> u32
         ensures { result ≡ running_with queued }
     {
-        if queued {
-            return Self::RUNNING + Self::QUEUED;
-        }
-        Self::RUNNING
+        Self::RUNNING + if queued { Self::QUEUED } else { 0 }
     }
 }
 
@@ -288,16 +417,9 @@ impl RwLockWord {
     pub fn is_read_lockable(state: u32) -> bool
         ensures { result ≡ is_read_lockable state }
     {
-        let few = Self::count(state) < Self::MAX_READERS;
-        let readers = Self::has_readers_waiting(state);
-        let writers = Self::has_writers_waiting(state);
-        if few {
-            if readers {
-                return false;
-            }
-            return !writers;
-        }
-        false
+        Self::count(state) < Self::MAX_READERS
+            && !Self::has_readers_waiting(state)
+            && !Self::has_writers_waiting(state)
     }
 
     // The right of a reader woken by `downgrade`, which wakes all readers and leaves the lock read
@@ -305,20 +427,10 @@ impl RwLockWord {
     pub fn is_read_lockable_after_wakeup(state: u32) -> bool
         ensures { result ≡ is_read_lockable_after_wakeup state }
     {
-        let few = Self::count(state) < Self::MAX_READERS;
-        let readers = Self::has_readers_waiting(state);
-        let written = Self::is_write_locked(state);
-        let free = Self::is_unlocked(state);
-        if few {
-            if readers {
-                return false;
-            }
-            if written {
-                return false;
-            }
-            return !free;
-        }
-        false
+        Self::count(state) < Self::MAX_READERS
+            && !Self::has_readers_waiting(state)
+            && !Self::is_write_locked(state)
+            && !Self::is_unlocked(state)
     }
 
     pub fn has_reached_max_readers(state: u32) -> bool

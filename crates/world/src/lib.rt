@@ -54,7 +54,7 @@ pub fn fresh() -> World
         reads: [0; LOCK_HOLDS],
         forgotten: [0; RWLOCKS],
         threads: [IDLE; THREADS],
-        sleepers: queue::empty(),
+        sleepers: Row::new(),
         started: false,
     }
 }

@@ -1,12 +1,11 @@
-use mathlib.Core.Path.{◌≡◌}
-use lib.ListN.{length}
-use Rattle.queue.specs.Row.{THREADS, is_wanted}
-use Rattle.step.proofs.Laws.{left_by}
-use borrow.Author.Rules.{rules}
+use Rattle.std.proofs.Common.{arith, ◌∙◌}
+use Rattle.queue.specs.Row.{THREADS}
+use Rattle.queue.proofs.Laws.{take-out-refused}
 use Rattle.step.proofs.leave.Goals as goal
 
-pub returns : goal.returns
-returns c =
-    let a = c.args in
-    let l : length a.row.places ≡ THREADS = search rules in
-    rw (c.left_by-count.ensures, c.without-rest.ensures, left_by (is_wanted a.wanted) a.row l)
+pub returns-in_err-place-clause-row : goal.returns-in_err-place-clause-row
+returns-in_err-place-clause-row c = rw (c.in_err-place.was, take-out-refused c.args.row.now THREADS (omega arith))
+
+pub returns-in_err-place-clause-value : goal.returns-in_err-place-clause-value
+returns-in_err-place-clause-value c =
+    c.from_residual.ensures ∙ rw (c.in_err-place.was, take-out-refused c.args.row.now THREADS (omega arith))

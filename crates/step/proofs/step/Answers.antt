@@ -1,15 +1,19 @@
-use Rattle.step.proofs.Laws.{stepped, not-stepped}
+use Rattle.std.proofs.Common.{rules, arith, ◌≡◌, ◌∙◌, refl, sym, length}
+use Rattle.queue.specs.Row.{THREADS}
+use Rattle.calls.specs.Objects.{WORDS}
+use Rattle.calls.specs.Positions.{operand_of}
+use Rattle.step.proofs.Laws.{found-none, stepped, not-stepped}
 use Rattle.step.proofs.step.Goals as goal
 
-pub returns-then-there : goal.returns-then-there
-returns-then-there c =
-    let a = c.args in
-    stepped a.w a.t a.fails c.thread_at-th.result c.operand-k.result c.first_on-place.result c.word_at-word.result
-    c.decide-p.result c.apply.result c.thread_at-th.ensures c.operand-k.ensures c.if-there.true-raw c.first_on-place.ensures
-    c.word_at-word.ensures c.decide-p.ensures c.apply.ensures
+pub returns-in_default : goal.returns-in_default
+returns-in_default c =
+    let k = operand_of c.args.t c.thread-at.result.at in
+    not-stepped c.args.w c.args.t c.args.fails c.thread-at.result k c.thread-at.ensures refl (found-none WORDS k (sym c.operand.ensures ∙ c.in_default.is))
 
 pub returns : goal.returns
 returns c =
     let a = c.args in
-    not-stepped a.w a.t a.fails c.thread_at-th.result c.operand-k.result c.thread_at-th.ensures c.operand-k.ensures
-    c.if-there.false-raw
+    let n : length a.w.sleepers.places ≡ THREADS = search rules in
+    stepped a.w a.t a.fails c.thread-at.result c.in-Some.k c.first_on-place.result c.word.result c.is_some.result c.decide-plan.result
+    c.apply.result (omega arith) c.thread-at.ensures (sym c.operand.ensures ∙ c.in-Some.is) c.first_on-place.ensures c.word.ensures
+    c.is_some.ensures c.decide-plan.ensures c.apply.ensures

@@ -1,9 +1,0 @@
--- `refusals::rows::sleepers` takes a turn for each row of the table.
-use Rattle.std.proofs.Common.{length, ◌-◌, ◌≤◌}
-use Rattle.refusals.proofs.rows.sleepers.Given as goal
-
-abbrev pub invariant-loop-i : goal.invariant-loop-i
-invariant-loop-i g l = l.i ≤ length l.table
-
-abbrev pub decreases-loop-i : goal.decreases-loop-i
-decreases-loop-i g l = length l.table - l.i
