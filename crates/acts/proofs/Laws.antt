@@ -10,11 +10,6 @@ use Rattle.words.specs.declared.Next.{Next}
 use Rattle.words.specs.declared.Next.TheVariants as Nx
 use Rattle.words.specs.declared.Step.{Step}
 use Rattle.words.specs.Steps.{map_step}
-use Rattle.mutex.specs.declared.MutexAt.{MutexAt}
-use Rattle.rwlock.specs.declared.RwLockAt.{RwLockAt}
-use Rattle.condvar.specs.declared.CondvarAt.{CondvarAt}
-use Rattle.once.specs.declared.OnceAt.{OnceAt}
-use Rattle.thread_parking.specs.declared.ParkerAt.{ParkerAt}
 use Rattle.mutex.specs.Mutex as Mx
 use Rattle.rwlock.specs.RwLock as Rw
 use Rattle.condvar.specs.Condvar as Cv
@@ -27,7 +22,7 @@ use Rattle.calls.specs.declared.Event.TheVariants as E
 use Rattle.calls.specs.Events.{tell_of, of_refusal, is_refusal}
 use Rattle.calls.proofs.Events.{tell-kind}
 use Rattle.calls.specs.Objects.{WORDS}
-use Rattle.calls.specs.Plans.{moved, slept, done, panicked, entered, mutex_plan, rwlock_plan, condvar_plan, once_plan, parker_plan, decide_of, plan_next, plan_of}
+use Rattle.calls.specs.Plans.{moved, slept, done, panicked, entered, decide_of, plan_next, plan_of}
 use Rattle.calls.specs.Positions.{operand_of}
 use Rattle.world.specs.declared.World.{World}
 use Rattle.world.specs.World.{thread_at, word_at, on_word}

@@ -6,7 +6,6 @@ use Rattle.words.specs.Once as OnceWord
 use Rattle.words.specs.Parker as ParkerWord
 use Rattle.words.specs.RwLock as RwLockWord
 use Rattle.queue.specs.Row as Row
-use Rattle.words.specs.Steps as St
 use Rattle.mutex.specs.Mutex as Mutex
 use Rattle.thread_parking.specs.ThreadParking as Parker
 use Rattle.condvar.specs.Condvar as Condvar

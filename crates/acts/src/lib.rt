@@ -74,11 +74,11 @@ impl TryFrom<u8> for Change {
     }
 }
 
-// Why an act is refused.
+// Why an act is refused, with the number that is told of it.
 #[derive(Clone, Copy, Debug, PartialEq, Eq)]
 pub enum Refusal {
     // no such act or choice, or a field that the act does not name is not 0
-    Unknown,
+    Unknown = 1,
     NoSuchThread,
     NoSuchObject,
     // the thread that would begin a call is in one
@@ -97,29 +97,14 @@ pub enum Refusal {
     // more forgotten reads than there may be readers
     OutOfRange,
     // the parts of the world disagree
-    Unsound,
+    Unsound = 19,
 }
 
 impl Refusal {
     pub fn number(self) -> u8
         ensures { result ≡ number_of self }
     {
-        match self {
-            Refusal::Unknown => 1,
-            Refusal::NoSuchThread => 2,
-            Refusal::NoSuchObject => 3,
-            Refusal::InsideCall => 4,
-            Refusal::Idle => 5,
-            Refusal::Asleep => 6,
-            Refusal::Awake => 7,
-            Refusal::NoWeakExchange => 8,
-            Refusal::NoHold => 9,
-            Refusal::InsideClosure => 10,
-            Refusal::OutsideClosure => 11,
-            Refusal::Started => 12,
-            Refusal::OutOfRange => 13,
-            Refusal::Unsound => 19,
-        }
+        self as u8
     }
 }
 
@@ -184,22 +169,22 @@ fn unnamed_zero(act: Action, a: Fields) -> bool
     }
 }
 
-fn set_exists(choice: u8, object: u8) -> bool
-    ensures { result ≡ set_exists choice object }
+fn set_exists(a: Fields) -> bool
+    ensures { result ≡ set_exists a.choice a.object }
 {
-    let object = usize::from(object);
-    match Change::try_from(choice) {
+    let object = usize::from(a.object);
+    match Change::try_from(a.choice) {
         Ok(Change::ForgottenReads | Change::WriterNotify) => object < NAMED_LOCKS,
         Ok(Change::Condvar) => object < NAMED_CONDVARS,
         _ => object < NAMED_ONCES,
     }
 }
 
-fn call_exists(choice: u8, object: u8, value: u32) -> bool
-    ensures { result ≡ call_exists choice object value }
+fn call_exists(a: Fields) -> bool
+    ensures { result ≡ call_exists a.choice a.object a.value }
 {
-    let object = usize::from(object);
-    match Call::try_from(choice) {
+    let object = usize::from(a.object);
+    match Call::try_from(a.choice) {
         Ok(Call::Lock | Call::TryLock | Call::Unlock) => object < NAMED_MUTEXES,
         Ok(
             Call::Read
@@ -210,7 +195,7 @@ fn call_exists(choice: u8, object: u8, value: u32) -> bool
             | Call::WriteUnlock
             | Call::Downgrade,
         ) => object < NAMED_LOCKS,
-        Ok(Call::CondvarWait) => object < NAMED_CONDVARS && (value as usize) < NAMED_MUTEXES,
+        Ok(Call::CondvarWait) => object < NAMED_CONDVARS && (a.value as usize) < NAMED_MUTEXES,
         Ok(Call::NotifyOne | Call::NotifyAll) => object < NAMED_CONDVARS,
         Ok(
             Call::OnceCall
@@ -229,8 +214,8 @@ fn object_exists(act: Action, a: Fields) -> bool
     ensures { result ≡ object_exists a }
 {
     match act {
-        Action::Set => set_exists(a.choice, a.object),
-        Action::Begin => call_exists(a.choice, a.object, a.value),
+        Action::Set => set_exists(a),
+        Action::Begin => call_exists(a),
         _ => true,
     }
 }
@@ -271,14 +256,14 @@ pub fn start(a: Fields) -> At
     calls::entry(a.choice, a.object, (a.value % 256) as u8)
 }
 
-fn set_refusal(w: &World, choice: u8, value: u32) -> Result<(), Refusal>
-    ensures { told result ≡ set_refusal w.now choice value }
+fn set_refusal(w: &World, a: Fields) -> Result<(), Refusal>
+    ensures { told result ≡ set_refusal w.now a.choice a.value }
 {
     if w.started {
         return Err(Refusal::Started);
     }
-    match Change::try_from(choice) {
-        Ok(Change::ForgottenReads) if RwLockWord::MAX_READERS < value => Err(Refusal::OutOfRange),
+    match Change::try_from(a.choice) {
+        Ok(Change::ForgottenReads) if RwLockWord::MAX_READERS < a.value => Err(Refusal::OutOfRange),
         _ => Ok(()),
     }
 }
@@ -355,7 +340,7 @@ pub fn world_refusal(w: World, a: Fields) -> Result<(), Refusal>
 {
     let th = w.thread(a.thread);
     match Action::try_from(a.act) {
-        Ok(Action::Set) => set_refusal(&w, a.choice, a.value),
+        Ok(Action::Set) => set_refusal(&w, a),
         Ok(Action::Begin) => begin_refusal(&w, a),
         Ok(Action::Step) => step_refusal(th, a.choice),
         Ok(Action::Wake) => wake_refusal(th),
@@ -384,31 +369,31 @@ fn with_forgotten(w: World, lock: u8, value: u32) -> World
     v
 }
 
-fn set_world(w: World, choice: u8, object: u8, value: u32) -> World
-    ensures { result ≡ set_world w choice object value }
+fn set_world(w: World, a: Fields) -> World
+    ensures { result ≡ set_world w a.choice a.object a.value }
 {
-    match Change::try_from(choice) {
-        Ok(Change::ForgottenReads) => with_forgotten(w, object, value),
-        Ok(Change::WriterNotify) => with_word(w, Kind::WriterNotify, object, value),
-        Ok(Change::Condvar) => with_word(w, Kind::Condvar, object, value),
-        _ => with_word(w, Kind::Once, object, OnceWord::COMPLETE),
+    match Change::try_from(a.choice) {
+        Ok(Change::ForgottenReads) => with_forgotten(w, a.object, a.value),
+        Ok(Change::WriterNotify) => with_word(w, Kind::WriterNotify, a.object, a.value),
+        Ok(Change::Condvar) => with_word(w, Kind::Condvar, a.object, a.value),
+        _ => with_word(w, Kind::Once, a.object, OnceWord::COMPLETE),
     }
 }
 
-fn set(w: World, choice: u8, object: u8, value: u32) -> Acted
-    ensures { result ≡ set_of w choice object value }
+fn set(w: World, a: Fields) -> Acted
+    ensures { result ≡ set_of w a.choice a.object a.value }
 {
     Acted {
         event: Event::Set,
-        world: set_world(w, choice, object, value),
+        world: set_world(w, a),
     }
 }
 
 // How a closure ends, by the choice of a close.
-fn ending(choice: u8) -> Ending
-    ensures { result ≡ ending_of choice }
+fn ending(a: Fields) -> Ending
+    ensures { result ≡ ending_of a.choice }
 {
-    match choice {
+    match a.choice {
         0 => Ending::Returned,
         1 => Ending::Poisoned,
         _ => Ending::Panicked,
@@ -420,11 +405,11 @@ pub fn accepted(w: World, a: Fields) -> Acted
     ensures { result ≡ accepted_of w a }
 {
     match Action::try_from(a.act) {
-        Ok(Action::Set) => set(w, a.choice, a.object, a.value),
+        Ok(Action::Set) => set(w, a),
         Ok(Action::Begin) => step::begin(w, a.thread, start(a)),
         Ok(Action::Step) => step::step(w, a.thread, fails(a.choice)),
         Ok(Action::Wake) => step::wake(w, a.thread),
-        _ => step::close(w, a.thread, ending(a.choice)),
+        _ => step::close(w, a.thread, ending(a)),
     }
 }
 

@@ -28,8 +28,7 @@ use Rattle.world.specs.declared.World.{World}
 use Rattle.world.specs.World.{thread_at, word_at, sleeps_on, on_word}
 use Rattle.world.specs.Holds.{MUTEXHOLDS, LOCKHOLDS, has_hold}
 use Rattle.step.specs.declared.Acted.{Acted}
-use Rattle.step.specs.declared.Woken.{Woken}
-use Rattle.step.specs.Step.{roused, rouse_all, wakes_of, own_plan, apply_plan, refused, step_of}
+use Rattle.step.specs.Step.{Woken, roused, rouse_all, wakes_of, own_plan, apply_plan, refused, step_of}
 use Rattle.step.specs.Acts.{recorded, begin_of, wake_of, closed_at, close_of}
 use Rattle.acts.specs.Acts.{set_world, set_of}
 use Rattle.sound.specs.Sound.{names_exist, needs_held}

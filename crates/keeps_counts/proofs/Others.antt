@@ -23,8 +23,7 @@ use Rattle.world.specs.declared.World.{World}
 use Rattle.world.specs.World.{thread_at, word_at, on_word}
 use Rattle.world.specs.Holds.{MUTEXHOLDS, LOCKHOLDS, has_hold}
 use Rattle.step.specs.declared.Acted.{Acted}
-use Rattle.step.specs.declared.Woken.{Woken}
-use Rattle.step.specs.Step.{wakes_of, own_plan, apply_plan, refused, step_of}
+use Rattle.step.specs.Step.{Woken, wakes_of, own_plan, apply_plan, refused, step_of}
 use Rattle.step.specs.Acts.{recorded, begin_of, wake_of, close_of}
 use Rattle.sound.specs.Sound.{mutexes_agree, locks_agree}
 use Rattle.kept.proofs.Tests.{decided}

@@ -11,8 +11,7 @@ use lib.ListN.{length, get_or, get_or-eq_default}
 use Rattle.words.proofs.Cond.{either}
 use Rattle.words.specs.declared.Wake.{Wake}
 use Rattle.words.specs.declared.Wake.TheVariants as W
-use Rattle.queue.specs.declared.Taken.{Taken}
-use Rattle.queue.specs.Row.{THREADS, place_of, take_out_of}
+use Rattle.queue.specs.Row.{Taken, THREADS, place_of, take_out_of}
 use Rattle.calls.specs.declared.At.{At}
 use Rattle.calls.specs.declared.Thread.{Thread}
 use Rattle.calls.specs.declared.Plan.{Plan}
@@ -22,8 +21,7 @@ use Rattle.calls.specs.Positions.{operand_of}
 use Rattle.world.specs.declared.World.{World}
 use Rattle.world.specs.World.{thread_at, word_at, on_word, sleeps_on}
 use Rattle.step.specs.declared.Acted.{Acted}
-use Rattle.step.specs.declared.Woken.{Woken}
-use Rattle.step.specs.Step.{roused, rouse_all, wakes_of, own_plan, apply_plan, step_of}
+use Rattle.step.specs.Step.{Woken, roused, rouse_all, wakes_of, own_plan, apply_plan, step_of}
 use Rattle.step.specs.Acts.{recorded, begin_of, wake_of, close_of, closed_at}
 use Rattle.acts.specs.declared.Fields.{Fields}
 use Rattle.acts.specs.Refusals.{SET, BEGIN, STEP, WAKE, start_of}

@@ -14,9 +14,7 @@ use Rattle.words.proofs.Cond.{either}
 use Rattle.words.specs.declared.Wake.{Wake}
 use Rattle.words.specs.declared.Wake.TheVariants as W
 use Rattle.queue.specs.declared.Row.{Row}
-use Rattle.queue.specs.declared.Taken.{Taken}
-use Rattle.queue.specs.declared.Pushed.{Pushed}
-use Rattle.queue.specs.Row.{THREADS, sleepers, passing, queue_of, is_wanted, push_of, taken_out, take_out_of, refused, place_of, without_of, occ, is_tidy}
+use Rattle.queue.specs.Row.{Taken, Pushed, THREADS, sleepers, passing, queue_of, is_wanted, push_of, taken_out, take_out_of, refused, place_of, without_of, occ, is_tidy}
 use Rattle.queue.proofs.Laws.{push-accepted, push-occ, push-room, take-out-accepted, take-out-occ, found_below, found-passes, without-occ, place-of-found, place-of-nothing, place-of-bound}
 use Rattle.queue.proofs.Part.{occ-passing}
 use Rattle.queue.proofs.Search.{Found}
@@ -26,8 +24,7 @@ use Rattle.calls.specs.declared.Plan.{Plan}
 use Rattle.calls.specs.Plans.{idle}
 use Rattle.world.specs.declared.World.{World}
 use Rattle.world.specs.World.{thread_at, sleeps_on, on_word}
-use Rattle.step.specs.declared.Woken.{Woken}
-use Rattle.step.specs.Step.{roused, rouse_all, woken_one, wakes_of, own_plan}
+use Rattle.step.specs.Step.{Woken, roused, rouse_all, woken_one, wakes_of, own_plan}
 use Rattle.step.specs.Acts.{only_of}
 use Rattle.kept.specs.Shape.{Shaped}
 use Rattle.kept.proofs.Tests.{decided, no_way}

@@ -13,9 +13,7 @@ use Rattle.words.specs.declared.Kind.TheVariants as K
 use Rattle.words.specs.declared.Wake.{Wake}
 use Rattle.words.specs.declared.Wake.TheVariants as W
 use Rattle.queue.specs.declared.Row.{Row}
-use Rattle.queue.specs.declared.Pushed.{Pushed}
-use Rattle.queue.specs.declared.Taken.{Taken}
-use Rattle.queue.specs.Row.{THREADS, place_of, push_of, taken_out, take_out_of, refused}
+use Rattle.queue.specs.Row.{Taken, Pushed, THREADS, place_of, push_of, taken_out, take_out_of, refused}
 use Rattle.queue.proofs.Laws.{push-length, take-out-length, without-length}
 use Rattle.queue.proofs.Tidy.{tidy-count}
 use Rattle.calls.specs.declared.At.{At}
@@ -28,8 +26,7 @@ use Rattle.calls.specs.Positions.{operand_of}
 use Rattle.world.specs.declared.World.{World}
 use Rattle.world.specs.World.{thread_at, word_at, on_word}
 use Rattle.step.specs.declared.Acted.{Acted}
-use Rattle.step.specs.declared.Woken.{Woken}
-use Rattle.step.specs.Step.{roused, rouse_all, wakes_of, own_plan, apply_plan, step_of}
+use Rattle.step.specs.Step.{Woken, roused, rouse_all, wakes_of, own_plan, apply_plan, step_of}
 use Rattle.step.specs.Acts.{recorded, begin_of, wake_of, close_of}
 use Rattle.acts.specs.declared.Fields.{Fields}
 use Rattle.acts.specs.Refusals.{SET, BEGIN, STEP, WAKE}

@@ -24,8 +24,7 @@ use Rattle.calls.proofs.Objects.{word-there}
 use Rattle.world.specs.declared.World.{World}
 use Rattle.world.specs.World.{thread_at, word_at, on_word}
 use Rattle.step.specs.declared.Acted.{Acted}
-use Rattle.step.specs.declared.Woken.{Woken}
-use Rattle.step.specs.Step.{wakes_of, own_plan, apply_plan, step_of}
+use Rattle.step.specs.Step.{Woken, wakes_of, own_plan, apply_plan, step_of}
 use Rattle.step.specs.Acts.{recorded, begin_of, wake_of, close_of}
 use Rattle.sound.specs.Sound.{sound_world, words_in_range, word_for}
 use Rattle.sound.proofs.Readings.{sound-clauses, range-read, range-make}

@@ -12,8 +12,7 @@ use Rattle.words.specs.declared.Hold.TheVariants as H
 use Rattle.words.specs.declared.Kind.{Kind}
 use Rattle.words.specs.declared.Kind.TheVariants as K
 use Rattle.queue.specs.declared.Row.{Row}
-use Rattle.queue.specs.declared.Pushed.{Pushed}
-use Rattle.queue.specs.Row.{THREADS, sleepers, queue_of, push_of, occ}
+use Rattle.queue.specs.Row.{Pushed, THREADS, sleepers, queue_of, push_of, occ}
 use Rattle.queue.proofs.Laws.{push-accepted, push-queue, push-room, queue-agree}
 use Rattle.queue.proofs.Tidy.{tidy-count}
 use Rattle.calls.specs.declared.Thread.{Thread}

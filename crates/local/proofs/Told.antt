@@ -84,7 +84,7 @@ unfolding Tells decide_of plan_of done woken_of tell_of Mx.decide_of Mx.unlock_o
 mutex-tells m (M.Lock p) f word a = still (A.Mutex m (M.Lock p)) f word a refl
 mutex-tells m M.TryLock f word a = still (A.Mutex m M.TryLock) f word a refl
 mutex-tells m (M.Unlock U.Swap) f word a = still (A.Mutex m (M.Unlock U.Swap)) f word a refl
-mutex-tells m (M.Unlock U.Wake) f word a n h = refl
+mutex-tells m (M.Unlock U.Wake) f word a = λ n h. refl
 
 rwlock-tells : (l : ℕ) (p : RwLockAt) (f : Bool) (word : ℕ) (a : Bool) → Tells (decide_of (A.RwLock l p) f word a)
 unfolding decide_of plan_of moved done Rw.decide_of Rw.wake_of Rw.downgrade_of Tells woken_of tell_of may_wake RwP.may_wake RwP.wake_may_wake RwP.downgrade_may_wake
@@ -97,23 +97,23 @@ rwlock-tells l X.WriteUnlock f word a = still (A.RwLock l X.WriteUnlock) f word 
 rwlock-tells l (X.Wake w Wk.ExchangeWriters) f word a = still (A.RwLock l (X.Wake w Wk.ExchangeWriters)) f word a refl
 rwlock-tells l (X.Wake w Wk.ExchangeBoth) f word a = still (A.RwLock l (X.Wake w Wk.ExchangeBoth)) f word a refl
 rwlock-tells l (X.Wake w (Wk.Notify b)) f word a = still (A.RwLock l (X.Wake w (Wk.Notify b))) f word a refl
-rwlock-tells l (X.Wake w (Wk.WakeWriter b)) f word a n h =
+rwlock-tells l (X.Wake w (Wk.WakeWriter b)) f word a = λ n h.
     either (λ (s : Step RwLockAt). woken_of (tell_of (rwlock_plan l (X.Wake w (Wk.WakeWriter b)) s).event n) ≡ n) (b && not a) _ _ refl refl
 rwlock-tells l (X.Wake w Wk.ExchangeReaders) f word a = still (A.RwLock l (X.Wake w Wk.ExchangeReaders)) f word a refl
-rwlock-tells l (X.Wake w Wk.WakeReaders) f word a n h = refl
+rwlock-tells l (X.Wake w Wk.WakeReaders) f word a = λ n h. refl
 rwlock-tells l (X.Downgrade D.Add) f word a = still (A.RwLock l (X.Downgrade D.Add)) f word a refl
 rwlock-tells l (X.Downgrade D.Subtract) f word a = still (A.RwLock l (X.Downgrade D.Subtract)) f word a refl
-rwlock-tells l (X.Downgrade D.WakeReaders) f word a n h = refl
+rwlock-tells l (X.Downgrade D.WakeReaders) f word a = λ n h. refl
 
 condvar-tells : (c : ℕ) (p : CondvarAt) (f : Bool) (word : ℕ) (a : Bool) → Tells (decide_of (A.Condvar c p) f word a)
 unfolding decide_of plan_of moved done Cv.decide_of Cv.wait_of Cv.notify_of Cv.unlock_step Mx.unlock_of Tells woken_of tell_of may_wake Cv.may_wake Cv.wait_may_wake Cv.notify_may_wake Mx.unlock_may_wake
 condvar-tells c (Cd.Wait m Wt.Load) f word a = still (A.Condvar c (Cd.Wait m Wt.Load)) f word a refl
 condvar-tells c (Cd.Wait m (Wt.Unlock s U.Swap)) f word a = still (A.Condvar c (Cd.Wait m (Wt.Unlock s U.Swap))) f word a refl
-condvar-tells c (Cd.Wait m (Wt.Unlock s U.Wake)) f word a n h = refl
+condvar-tells c (Cd.Wait m (Wt.Unlock s U.Wake)) f word a = λ n h. refl
 condvar-tells c (Cd.Wait m (Wt.Wait s)) f word a = still (A.Condvar c (Cd.Wait m (Wt.Wait s))) f word a refl
 condvar-tells c (Cd.Wait m (Wt.Relock p)) f word a = still (A.Condvar c (Cd.Wait m (Wt.Relock p))) f word a refl
 condvar-tells c (Cd.Notify all Nf.Add) f word a = still (A.Condvar c (Cd.Notify all Nf.Add)) f word a refl
-condvar-tells c (Cd.Notify all Nf.Wake) f word a n h = refl
+condvar-tells c (Cd.Notify all Nf.Wake) f word a = λ n h. refl
 
 once-tells : (o : ℕ) (p : OnceAt) (f : Bool) (word : ℕ) (a : Bool) → Tells (decide_of (A.Once o p) f word a)
 unfolding decide_of On.decide_of On.call_of may_wake On.may_wake On.call_may_wake
@@ -131,7 +131,7 @@ parker-tells : (p : ParkerAt) (f : Bool) (word : ℕ) (a : Bool) → Tells (deci
 unfolding decide_of plan_of done Pk.decide_of Pk.unpark_of Tells woken_of tell_of may_wake Pk.may_wake Pk.unpark_may_wake
 parker-tells (P.Park p) f word a = still (A.Parker (P.Park p)) f word a refl
 parker-tells (P.Unpark t V.Swap) f word a = still (A.Parker (P.Unpark t V.Swap)) f word a refl
-parker-tells (P.Unpark t V.Wake) f word a n h = refl
+parker-tells (P.Unpark t V.Wake) f word a = λ n h. refl
 
 pub tells : (at : At) (f : Bool) (word : ℕ) (a : Bool) → Tells (decide_of at f word a)
 unfolding decide_of

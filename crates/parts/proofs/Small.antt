@@ -24,8 +24,7 @@ use Rattle.lines.proofs.Line.{line-bounds}
 use Rattle.world.specs.declared.World.{World}
 use Rattle.world.specs.World.{thread_at, word_at, on_word}
 use Rattle.step.specs.declared.Acted.{Acted}
-use Rattle.step.specs.declared.Woken.{Woken}
-use Rattle.step.specs.Step.{wakes_of, apply_plan, step_of}
+use Rattle.step.specs.Step.{Woken, wakes_of, apply_plan, step_of}
 use Rattle.step.specs.Acts.{recorded, begin_of, wake_of, close_of}
 use Rattle.world.specs.Holds.{has_hold}
 use Rattle.acts.specs.declared.Fields.{Fields}

@@ -2,136 +2,95 @@
 // docs/PROBE.md has the layout and the lines.
 #![tactic(auto)]
 
-mod build;
-mod input;
-mod layout;
+mod bytes;
+mod case;
+mod record;
 mod report;
-mod slots;
-mod stand;
-mod tell;
-mod text;
 
-ghost use Rattle.std.specs.Prelude.{◌≤◌, length};
-
-use std::io::Read;
+use case::CASE;
+use report::{LINE, Line};
+use std::io::{self, Cursor, Read, Write};
 
 // The bytes of the buffer in which the lines are laid.
 const LAID: usize = 65536;
 
-// What is laid in the buffer and not yet written, and whether to go on.
-#[derive(Clone, Copy)]
-struct Turn {
-    have: usize,
-    more: bool,
+// What is laid in the buffer and not yet written.
+#[derive(Drop)]
+struct Lines {
+    laid: Cursor<[u8; LAID]>,
+}
+
+impl Lines {
+    fn new() -> Lines {
+        Lines {
+            laid: Cursor::new([0; LAID]),
+        }
+    }
+
+    // Whether there is room for one more line.
+    fn have_room(&self) -> bool {
+        self.laid.position() <= (LAID - LINE) as u64
+    }
+
+    // Writes what is laid, and says so where that cannot be done.
+    fn write_out(&mut self, rt: &(impl Print + Eprint)) -> io::Result<()> {
+        let end = self.laid.position() as usize;
+        self.laid.set_position(0);
+        let written = rt.write_all(self.laid.get_ref().get(..end).unwrap_or_default());
+        if written.is_err() {
+            say(rt, "standard output could not be written");
+        }
+        written
+    }
 }
 
 // Where not even standard error can be written, nothing is said.
-fn say(rt: &impl Eprint, words: &str) {
-    let _ = rt.eprintln(words);
+fn say(rt: &impl Eprint, what: &str) {
+    let _ = eprintln!(rt; "probe: {what}");
 }
 
-// Writes the first bytes of the buffer, and says so where that cannot be done.
-fn written(rt: &(impl Print + Eprint), out: &[u8], count: usize) -> bool {
-    if count <= out.len() {
-        let whole = rt.write_all(&out[0..count]).is_ok();
-        if whole {
-            return true;
-        }
-        say(rt, "probe: standard output could not be written");
-        return false;
-    }
-    false
+// Reads a case, until it is whole, the input ends or a read fails.
+fn read_case(input: &mut impl Read) -> Cursor<[u8; CASE]> {
+    let mut case = Cursor::new([0; CASE]);
+    let _ = io::copy(&mut input.by_ref().take(CASE as u64), &mut case);
+    case
 }
 
-// Writes what is laid, where there is no room for one more line behind it.
-fn spared(rt: &(impl Print + Eprint), out: &[u8], have: usize) -> Turn {
-    if have < out.len() {
-        if report::LINE <= out.len() - have {
-            return Turn {
-                have: have,
-                more: true,
-            };
-        }
-    }
-    Turn {
-        have: 0,
-        more: written(rt, out, have),
-    }
-}
-
-// Says so where the input did not end but could not be read.
-fn tell_unread(rt: &impl Eprint, input: &mut impl Read) {
-    let mut one = [0u8; 1];
-    let ended = matches!(input.read(&mut one), Ok(0));
-    if !ended {
-        say(rt, "probe: standard input could not be read");
-    }
-}
-
-// The end of the input, with `count` bytes behind the last whole case.
-fn finish(
+// Lays and writes the line of each whole case, and answers how many bytes stand behind the last.
+fn tell_cases(
     rt: &(impl Print + Eprint),
     input: &mut impl Read,
-    out: &mut [u8],
-    have: usize,
-    count: usize,
-) {
-    if count == 0 {
-        written(rt, out, have);
-        tell_unread(rt, input);
-        return;
-    }
-    let end = report::put_short(out, have, count);
-    written(rt, out, end);
-    tell_unread(rt, input);
-}
-
-// Reads until the buffer is full, the input ends or a read fails, and answers how many bytes were read.
-fn read_full(input: &mut impl Read, buf: &mut [u8]) -> usize
-    ensures { result ≤ length buf.new }
-{
-    let mut done = 0;
-    while done < buf.len() {
-        let n = input.read(&mut buf[done..]).unwrap_or(0);
-        if n == 0 {
-            break;
+    lines: &mut Lines,
+) -> io::Result<u64> {
+    for _ in 0..u64::MAX {
+        let case = read_case(input);
+        let count = case.position();
+        if count < CASE as u64 {
+            return Ok(count);
         }
-        done += n;
+        let _ = writeln!(lines.laid, "{}", Line(case.get_ref()));
+        if !lines.have_room() {
+            lines.write_out(rt)?;
+        }
     }
-    done
+    Ok(0)
 }
 
-// Reads one case, and lays its line.
-fn one_case(
-    rt: &(impl Print + Eprint),
-    input: &mut impl Read,
-    case: &mut [u8],
-    out: &mut [u8],
-    have: usize,
-) -> Turn {
-    let count = read_full(input, case);
-    if count < layout::CASE {
-        finish(rt, input, out, have, count);
-        return Turn {
-            have: 0,
-            more: false,
-        };
+// A write that fails ends the run.
+fn run(rt: &(impl Print + Eprint), input: &mut impl Read) -> io::Result<()> {
+    let mut lines = Lines::new();
+    let count = tell_cases(rt, input, &mut lines)?;
+    if count > 0 {
+        let _ = writeln!(lines.laid, "short {count} bytes");
     }
-    let end = report::put_line(out, have, case);
-    spared(rt, out, end)
+    let written = lines.write_out(rt);
+    let behind = input.bytes().next();
+    if behind.is_some() {
+        say(rt, "standard input could not be read");
+    }
+    written
 }
 
 fn main(rt: HostRuntime) {
-    let mut input = rt.reader();
-    let mut case = [0u8; layout::CASE];
-    let mut out = [0u8; LAID];
-    let mut have: usize = 0;
-    let mut more = true;
-    let mut turns = u64::MAX;
-    while turns > 0 && more {
-        turns -= 1;
-        let t = one_case(&rt, &mut input, &mut case, &mut out, have);
-        have = t.have;
-        more = t.more;
-    }
+    let _ = run(&rt, &mut rt.reader());
 }

@@ -1,13 +1,14 @@
 // A thread stepped alone, by plain steps under a budget, until its call ends, sleeps, panics or enters a
 // closure. Soundness is tested once: every step keeps it (crates/keeps, `solo-is-acts`).
-#![tactic(auto, unfolding(crate::specs::Solo::answer_of, crate::specs::Solo::name_of, crate::specs::Solo::stop_of, crate::specs::Solo::value_of))]
+#![tactic(auto, unfolding(crate::specs::Run::solo_of, crate::specs::Solo::answer_of, crate::specs::Solo::name_of, crate::specs::Solo::stop_of, crate::specs::Solo::value_of))]
 
-ghost use Rattle.std.specs.Prelude.{◌≡◌, not};
+ghost use Rattle.std.specs.Prelude.{◌≡◌};
 ghost use Rattle.calls.specs.Events.{goes_on};
+ghost use Rattle.acts.specs.Numbers.{number_of};
 ghost use Rattle.solo.specs.Run.{run_from, solo_of};
 ghost use Rattle.solo.specs.Solo.{stop_of, answer_of, refused_answer, name_of, value_of};
 
-use acts::Fields;
+use acts::Refusal;
 use calls::Event;
 use queue::THREADS;
 use world::World;
@@ -34,25 +35,11 @@ pub struct Ran {
     pub world: World,
 }
 
-// Whether a step's event ends a run.
-fn is_stop(event: Event) -> bool
-    ensures { result ≡ not (goes_on event) }
+// Whether a run goes on behind a step's event.
+fn goes_on(event: Event) -> bool
+    ensures { result ≡ goes_on event }
 {
-    match event {
-        Event::Set => true,
-        Event::Begun => true,
-        Event::Moved { woken: _ } => false,
-        Event::Done { value: _, woken: _ } => true,
-        Event::Slept => true,
-        Event::Panic {
-            number: _,
-            woken: _,
-        } => true,
-        Event::Closure => true,
-        Event::Woken => true,
-        Event::Closed => true,
-        Event::Refused { number: _ } => true,
-    }
+    matches!(event, Event::Moved { .. })
 }
 
 // The stop that an event is.
@@ -60,16 +47,15 @@ fn stop_of(event: Event) -> Stop
     ensures { result ≡ stop_of event }
 {
     match event {
-        Event::Set => Stop::Refused { number: 19 },
-        Event::Begun => Stop::Refused { number: 19 },
-        Event::Moved { woken: _ } => Stop::Budget,
-        Event::Done { value, woken: _ } => Stop::Done { value: value },
+        Event::Moved { .. } => Stop::Budget,
+        Event::Done { value, .. } => Stop::Done { value },
         Event::Slept => Stop::Slept,
-        Event::Panic { number, woken: _ } => Stop::Panic { number: number },
+        Event::Panic { number, .. } => Stop::Panic { number },
         Event::Closure => Stop::Closure,
-        Event::Woken => Stop::Refused { number: 19 },
-        Event::Closed => Stop::Refused { number: 19 },
-        Event::Refused { number } => Stop::Refused { number: number },
+        Event::Refused { number } => Stop::Refused { number },
+        Event::Set | Event::Begun | Event::Woken | Event::Closed => Stop::Refused {
+            number: Refusal::Unsound.number(),
+        },
     }
 }
 
@@ -78,38 +64,34 @@ fn run(w: World, t: u8, budget: u16) -> Ran
     ensures { result ≡ answer_of (run_from budget 0 0 w t) }
 {
     let mut v = w;
-    let mut count: u16 = 0;
     let mut woken: u32 = 0;
-    while count < budget {
+    for count in 0..budget {
         let a = step::step(v, t, false);
-        let event = a.event;
-        let more = calls::woken(event);
-        count = count + 1;
-        woken = woken + (more as u32);
+        woken += u32::from(calls::woken(a.event));
         v = a.world;
-        let stops = is_stop(event);
-        if stops {
+        if !goes_on(a.event) {
             return Ran {
-                stop: stop_of(event),
-                count: count,
-                woken: woken,
+                stop: stop_of(a.event),
+                count: count + 1,
+                woken,
                 world: v,
             };
         }
     }
     Ran {
         stop: Stop::Budget,
-        count: count,
-        woken: woken,
+        count: budget,
+        woken,
         world: v,
     }
 }
 
-fn refuse(number: u8, w: World) -> Ran
-    ensures { result ≡ refused_answer number w }
+fn refuse(refusal: Refusal, w: World) -> Ran
+    ensures { result ≡ refused_answer (number_of refusal) w }
 {
+    let number = refusal.number();
     Ran {
-        stop: Stop::Refused { number: number },
+        stop: Stop::Refused { number },
         count: 0,
         woken: 0,
         world: w,
@@ -120,29 +102,16 @@ fn refuse(number: u8, w: World) -> Ran
 pub fn solo(w: World, t: u8, budget: u16) -> Ran
     ensures { result ≡ answer_of (solo_of w t budget) }
 {
-    let sound = sound::sound(w);
-    if sound {
-        let there = (t as usize) < THREADS;
-        if there {
-            let number = acts::world_refusal(
-                w,
-                Fields {
-                    act: acts::STEP,
-                    choice: 0,
-                    thread: t,
-                    object: 0,
-                    value: 0,
-                },
-            );
-            let allowed = number == 0;
-            if allowed {
-                return run(w, t, budget);
-            }
-            return refuse(number, w);
-        }
-        return refuse(2, w);
+    if !sound::sound(w) {
+        return refuse(Refusal::Unsound, w);
     }
-    refuse(19, w)
+    if THREADS <= usize::from(t) {
+        return refuse(Refusal::NoSuchThread, w);
+    }
+    match acts::step_refusal(w.thread(t), 0) {
+        Ok(()) => run(w, t, budget),
+        Err(refusal) => refuse(refusal, w),
+    }
 }
 
 // How many bytes a stop's name has, the spaces behind it too.
@@ -153,12 +122,12 @@ pub fn name(stop: Stop) -> [u8; NAME]
     ensures { result ≡ name_of stop }
 {
     match stop {
-        Stop::Done { value: _ } => [100, 111, 110, 101, 32, 32, 32],
-        Stop::Slept => [115, 108, 101, 112, 116, 32, 32],
-        Stop::Panic { number: _ } => [112, 97, 110, 105, 99, 32, 32],
-        Stop::Closure => [99, 108, 111, 115, 117, 114, 101],
-        Stop::Budget => [98, 117, 100, 103, 101, 116, 32],
-        Stop::Refused { number: _ } => [114, 101, 102, 117, 115, 101, 100],
+        Stop::Done { .. } => *b"done   ",
+        Stop::Slept => *b"slept  ",
+        Stop::Panic { .. } => *b"panic  ",
+        Stop::Closure => *b"closure",
+        Stop::Budget => *b"budget ",
+        Stop::Refused { .. } => *b"refused",
     }
 }
 
@@ -168,10 +137,7 @@ pub fn value(stop: Stop) -> u8
 {
     match stop {
         Stop::Done { value } => value,
-        Stop::Slept => 0,
-        Stop::Panic { number } => number,
-        Stop::Closure => 0,
-        Stop::Budget => 0,
-        Stop::Refused { number } => number,
+        Stop::Panic { number } | Stop::Refused { number } => number,
+        Stop::Slept | Stop::Closure | Stop::Budget => 0,
     }
 }

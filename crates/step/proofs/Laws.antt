@@ -7,7 +7,7 @@ use native.Mathlib.Numerals.{add-one}
 use native.Mathlib.Omega.{arith}
 use lib.Dec.{eqb, ltb}
 use lib.ListN.{length, get_or, take, drop, set, replicate, length-take, length-set, length-replicate, drop_of_length-le, get_or-eq_default}
-use lib.Seq.{take-suc-set, drop-set-lt, take_all, drop-cons, append_snoc, take-suc, get_or-set_same, get_or-set_other}
+use lib.Seq.{take-suc-set, drop-set-lt, take_all, drop-cons, append_snoc, get_or-set_same, get_or-set_other}
 use borrow.Author.Tests.{eqb-true, eqb-false, ltb-true, ltb-false}
 use Rattle.queue.specs.declared.Row.{Row}
 use Rattle.queue.specs.Row.{Taken, THREADS, is_wanted, place_of, taken_out, refused as no_one, take_out_of, thread_of, sleepers, passing, failing, queue_of, row_of, without_of}
@@ -43,14 +43,6 @@ rouse-turn k t x l h e =
 pub rouse-end : (k t : ℕ) (l : List Thread) → length l ≤ t → take t l ++ rouse_all k t (drop t l) ≡ l
 unfolding rouse_all
 rouse-end k t l h = rw (take_all t l h, drop_of_length-le l h, append-nil)
-
--- a record that is not roused, at place t
-pub rouse-stays :
-    (k t : ℕ) (l : List Thread) → t < length l → sleeps_on k t (get_or l t idle) ≡ false →
-    take (t + 1) l ++ rouse_all k (t + 1) (drop (t + 1) l) ≡ take t l ++ rouse_all k t (drop t l)
-unfolding rouse_all
-rouse-stays k t l h e =
-    rw (drop-cons l t idle h, e, add-one t, take-suc l t idle h, append_snoc (take t l) (get_or l t idle) (rouse_all k (suc t) (drop (suc t) l)))
 
 -- those who leave the row are those who pass the test
 pub left_by :
@@ -141,7 +133,7 @@ stepped w t fails th k place word anyone p r long eth ek epl ew ea ep er =
     er ∙ rw (← eth, ← f.1, h, ← m, ← ew, ep, a, m)
 
 pub not-stepped :
-    (w : World) (t : ℕ) (fails : Bool) (th : Thread) →
-    th ≡ thread_at w t → found WORDS (operand_of t th.at) ≡ None → refused 19 w ≡ step_of w t fails
+    (w : World) (t : ℕ) (fails : Bool) (th : Thread) (k : ℕ) →
+    th ≡ thread_at w t → k ≡ operand_of t th.at → ltb k WORDS ≡ false → refused 19 w ≡ step_of w t fails
 unfolding step_of
-not-stepped w t fails th eth e = rw (← eth, found-none WORDS (operand_of t th.at) e)
+not-stepped w t fails th k eth ek h = rw (← eth, ← ek, h)

@@ -55,9 +55,9 @@ fn rouse(th: Thread) -> Thread
 fn rouse_all(threads: &mut [Thread; THREADS], k: usize)
     ensures { threads.new ≡ rouse_all k 0 threads.old }
 {
-    for t in 0..THREADS {
-        if world::sleeps_on(k, t as u8, threads[t]) {
-            threads[t] = rouse(threads[t]);
+    for (t, th) in threads.iter_mut().enumerate() {
+        if world::sleeps_on(k, t as u8, *th) {
+            *th = rouse(*th);
         }
     }
 }

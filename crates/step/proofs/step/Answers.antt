@@ -1,11 +1,14 @@
-use Rattle.std.proofs.Common.{rules, arith, ◌≡◌, ◌∙◌, sym, length}
+use Rattle.std.proofs.Common.{rules, arith, ◌≡◌, ◌∙◌, refl, sym, length}
 use Rattle.queue.specs.Row.{THREADS}
-use Rattle.step.proofs.Laws.{stepped, not-stepped}
+use Rattle.calls.specs.Objects.{WORDS}
+use Rattle.calls.specs.Positions.{operand_of}
+use Rattle.step.proofs.Laws.{found-none, stepped, not-stepped}
 use Rattle.step.proofs.step.Goals as goal
 
 pub returns-in_default : goal.returns-in_default
 returns-in_default c =
-    not-stepped c.args.w c.args.t c.args.fails c.thread-at.result c.thread-at.ensures (sym c.operand.ensures ∙ c.in_default.is)
+    let k = operand_of c.args.t c.thread-at.result.at in
+    not-stepped c.args.w c.args.t c.args.fails c.thread-at.result k c.thread-at.ensures refl (found-none WORDS k (sym c.operand.ensures ∙ c.in_default.is))
 
 pub returns : goal.returns
 returns c =

@@ -1,5 +1,0 @@
--- `probe::main` ends: the turns are counted down.
-use Rattle.probe.proofs.main.Given as goal
-
-abbrev pub decreases-loop-turns : goal.decreases-loop-turns
-decreases-loop-turns l = l.turns

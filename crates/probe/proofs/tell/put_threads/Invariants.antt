@@ -1,9 +1,0 @@
--- `probe::tell::put_threads` ends: a turn for each thread.
-use Rattle.std.proofs.Common.{◌-◌, ◌≤◌}
-use Rattle.probe.proofs.tell.put_threads.Given as goal
-
-abbrev pub invariant-loop-i : goal.invariant-loop-i
-invariant-loop-i l = l.i ≤ 32
-
-abbrev pub decreases-loop-i : goal.decreases-loop-i
-decreases-loop-i l = 32 - l.i

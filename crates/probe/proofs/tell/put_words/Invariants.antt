@@ -1,9 +1,0 @@
--- `probe::tell::put_words` ends: a turn for each of the words.
-use Rattle.std.proofs.Common.{◌-◌, ◌≤◌, length}
-use Rattle.probe.proofs.tell.put_words.Given as goal
-
-abbrev pub invariant-loop-i : goal.invariant-loop-i
-invariant-loop-i l = l.i ≤ length l.words
-
-abbrev pub decreases-loop-i : goal.decreases-loop-i
-decreases-loop-i l = length l.words - l.i

@@ -1,0 +1,85 @@
+// A case: the world that its bytes say, whatever they are, and what is to be done to it.
+use crate::bytes::{Case, Stored};
+use crate::record::RECORD;
+use acts::Fields;
+use calls::{RWLOCKS, WORDS};
+use queue::{Row, THREADS};
+use std::fmt;
+use world::{LOCK_HOLDS, MUTEX_HOLDS, World};
+
+// The bytes of the words, of a hold of each thread on each mutex and each lock, of the counts of reads, and of the
+// forgotten ones.
+const HOLDS: usize = WORDS * 4 + MUTEX_HOLDS + LOCK_HOLDS * 5 + RWLOCKS * 4;
+
+// The bytes of the records, of the row of sleepers with its count, and of the last flag.
+const SLEEPERS: usize = THREADS * RECORD + THREADS + 8 + 1;
+
+const DEED: usize = 9;
+
+// The bytes of a case.
+pub const CASE: usize = HOLDS + SLEEPERS + DEED;
+
+// What is to be done: an act, or a thread run alone.
+#[derive(Clone, Copy)]
+pub enum Deed {
+    Act(Fields),
+    Solo { thread: u8, budget: u16 },
+}
+
+impl Deed {
+    pub fn take(case: &mut Case<'_>) -> Deed {
+        if case.take() {
+            return Deed::Solo {
+                thread: case.take(),
+                budget: u16::from_le_bytes(case.take()),
+            };
+        }
+        Deed::Act(Fields {
+            act: case.take(),
+            choice: case.take(),
+            thread: case.take(),
+            object: case.take(),
+            value: case.take(),
+        })
+    }
+}
+
+impl Stored for Row {
+    fn take(case: &mut Case<'_>) -> Row {
+        Row {
+            places: case.take(),
+            count: usize::from_le_bytes(case.take()),
+        }
+    }
+
+    fn write<W: fmt::Write>(&self, f: &mut fmt::Formatter<W>) -> fmt::Result {
+        self.places.write(f)?;
+        self.count.to_le_bytes().write(f)
+    }
+}
+
+impl Stored for World {
+    fn take(case: &mut Case<'_>) -> World {
+        World {
+            words: case.take(),
+            locked: case.take(),
+            written: case.take(),
+            reads: case.take(),
+            forgotten: case.take(),
+            threads: case.take(),
+            sleepers: case.take(),
+            started: case.take(),
+        }
+    }
+
+    fn write<W: fmt::Write>(&self, f: &mut fmt::Formatter<W>) -> fmt::Result {
+        self.words.write(f)?;
+        self.locked.write(f)?;
+        self.written.write(f)?;
+        self.reads.write(f)?;
+        self.forgotten.write(f)?;
+        self.threads.write(f)?;
+        self.sleepers.write(f)?;
+        self.started.write(f)
+    }
+}

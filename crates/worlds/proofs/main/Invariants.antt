@@ -1,5 +1,0 @@
--- `worlds::main` ends: the turns are counted down.
-use Rattle.worlds.proofs.main.Given as goal
-
-abbrev pub decreases-loop-turns : goal.decreases-loop-turns
-decreases-loop-turns l = l.turns
