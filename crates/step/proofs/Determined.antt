@@ -6,14 +6,19 @@ use Rattle.words.specs.Determined.{Determined, determined}
 use Rattle.words.specs.declared.Hold.{Hold}
 use Rattle.queue.specs.declared.Row.{Row}
 use Rattle.calls.specs.declared.At.{At}
+use Rattle.calls.specs.declared.Plan.{Plan}
 use Rattle.once.specs.declared.Ending.{Ending}
 use Rattle.world.specs.declared.World.{World}
 use lib.ListN.{set}
-use Rattle.step.specs.Step.{locked_after, written_after, reads_after, slept_row, step_of}
+use Rattle.step.specs.Step.{locked_after, written_after, reads_after, slept_row, own_plan, step_of}
 use Rattle.step.specs.Acts.{begin_of, wake_of, close_of}
 
 pub put-word-determined : (words : List ℕ) (k : ℕ) (word : ℕ) → Determined (set words k word)
 put-word-determined words k word = determined (set words k word)
+
+-- for `store` the world that the reference holds at its end
+pub store-determined : (w : World) (t k : ℕ) (p : Plan) → Determined (own_plan w t k p)
+store-determined w t k p = determined (own_plan w t k p)
 
 pub step-determined : (w : World) (t : ℕ) (fails : Bool) → Determined (step_of w t fails)
 step-determined w t fails = determined (step_of w t fails)

@@ -15,17 +15,12 @@ fn say(rt: &impl Eprint, words: &str) {
     let _ = rt.eprintln(words);
 }
 
-// The line above a transcript.
-fn headed(rt: &impl Print, name: &str) -> bool {
-    println!(rt; "{name}:").is_ok()
-}
-
+// Replays an open file, behind a line with its name.
 fn replay_open<R: Print + Eprint, F: io::Read>(rt: &R, file: &mut F, name: &str) {
-    if headed(rt, name) {
-        replay_io::replay(rt, file, &mut io::writer(rt));
-        return;
+    match println!(rt; "{name}:") {
+        Ok(()) => replay_io::replay(rt, file, &mut io::writer(rt)),
+        Err(_) => say(rt, "transcripts: the name of a file cannot be written"),
     }
-    say(rt, "transcripts: the name of a file cannot be written");
 }
 
 fn replay_file<R: Files + Print + Eprint>(rt: &R, name: &str) {

@@ -14,79 +14,55 @@ use world::World;
 
 // Two answers.
 #[derive(Drop)]
-struct Acts {
-    one: Acted,
-    two: Acted,
+struct Twice<A> {
+    one: A,
+    two: A,
 }
 
-#[derive(Drop)]
-struct Solos {
-    one: solo::Ran,
-    two: solo::Ran,
-}
-
-#[derive(Drop)]
-struct Runs {
-    one: replay_log::Ran,
-    two: replay_log::Ran,
-}
-
-#[derive(Drop)]
-struct Ends {
-    one: usize,
-    two: usize,
-}
-
-#[derive(Drop)]
-struct Finishes {
-    one: Finished,
-    two: Finished,
-}
-
-fn act(w: World, a: Fields) -> Acts
+fn act(w: World, a: Fields) -> Twice<Acted>
     ensures { result.one ≡ result.two }
 {
     let one = acts::act(w, a);
     let two = acts::act(w, a);
-    Acts { one: one, two: two }
+    Twice { one, two }
 }
 
-fn solo(w: World, t: u8, budget: u16) -> Solos
+fn solo(w: World, t: u8, budget: u16) -> Twice<solo::Ran>
     ensures { result.one ≡ result.two }
 {
     let one = solo::solo(w, t, budget);
     let two = solo::solo(w, t, budget);
-    Solos { one: one, two: two }
+    Twice { one, two }
 }
 
-fn run(w: World, t: Tally, number: u32, log: &[u8], first: &mut [u8], second: &mut [u8]) -> Runs
+fn run(w: World, t: Tally, number: u32, log: &[u8], first: &mut [u8], second: &mut [u8]) -> Twice<replay_log::Ran>
     ensures { first.old ≡ second.old → (result.one ≡ result.two) × (first.new ≡ second.new) }
 {
     let one = replay_log::run(w, t, number, log, first);
     let two = replay_log::run(w, t, number, log, second);
-    Runs { one: one, two: two }
+    Twice { one, two }
 }
 
-fn put_line(first: &mut [u8], second: &mut [u8], at: usize, number: u32, event: Event) -> Ends
+fn put_line(first: &mut [u8], second: &mut [u8], at: usize, number: u32, event: Event) -> Twice<usize>
     ensures { first.old ≡ second.old → (result.one ≡ result.two) × (first.new ≡ second.new) }
 {
     let one = lines::put_line(first, at, number, event);
     let two = lines::put_line(second, at, number, event);
-    Ends { one: one, two: two }
+    Twice { one, two }
 }
 
-fn put_tally(first: &mut [u8], second: &mut [u8], at: usize, tally: Tally) -> Ends
+fn put_tally(first: &mut [u8], second: &mut [u8], at: usize, tally: Tally) -> Twice<usize>
     ensures { first.old ≡ second.old → (result.one ≡ result.two) × (first.new ≡ second.new) }
 {
     let one = lines::put_tally(first, at, tally);
     let two = lines::put_tally(second, at, tally);
-    Ends { one: one, two: two }
+    Twice { one, two }
 }
 
-fn put_finish(t: Tally, number: u32, left: usize, first: &mut [u8], second: &mut [u8]) -> Finishes
+fn put_finish(t: Tally, number: u32, left: usize, first: &mut [u8], second: &mut [u8]) -> Twice<Finished>
     ensures { first.old ≡ second.old → (result.one ≡ result.two) × (first.new ≡ second.new) }
 {
     let one = replay_log::put_finish(t, number, left, first);
     let two = replay_log::put_finish(t, number, left, second);
-    Finishes { one: one, two: two }
+    Twice { one, two }
 }
