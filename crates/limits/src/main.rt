@@ -36,7 +36,7 @@ struct Run {
 fn example() -> Run {
     Run {
         world: world::fresh(),
-        tally: tally::nothing(),
+        tally: Tally::nothing(),
         number: 0,
         from: 0,
         room: BUFFER,
@@ -99,7 +99,7 @@ impl<P: Print> Page<'_, P> {
 
     // The end of a log, with so many bytes left.
     fn tell_finish(&mut self, number: u32, left: usize) -> io::Result<()> {
-        let finished = replay_log::put_finish(tally::nothing(), number, left, &mut self.out);
+        let finished = replay_log::put_finish(Tally::nothing(), number, left, &mut self.out);
         self.print(finished.count)?;
         self.tell_tally(finished.tally)
     }

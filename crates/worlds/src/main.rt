@@ -73,7 +73,7 @@ impl Run {
     fn new() -> Run {
         Run {
             world: world::fresh(),
-            tally: tally::nothing(),
+            tally: Tally::nothing(),
             number: 0,
             laid: Cursor::new([0; LAID]),
         }
@@ -81,7 +81,7 @@ impl Run {
 
     // Does an act, and tells it: its line, and those on the world after it where it was accepted.
     fn act(&mut self, fields: Fields) {
-        let grant = tally::grants(world::thread_at(self.world.threads, fields.thread).at);
+        let grant = tally::grants(self.world.thread(fields.thread).at);
         let acted = acts::act(self.world, fields);
         self.world = acted.world;
         self.tell(acted.event, grant);
@@ -96,7 +96,7 @@ impl Run {
         let at = self.laid.position() as usize;
         let end = lines::put_line(self.laid.get_mut(), at, self.number, event);
         self.laid.set_position(end as u64);
-        tally::add(&mut self.tally, event, grant);
+        self.tally.add(event, grant);
     }
 
     fn tell_tally(&mut self) {
