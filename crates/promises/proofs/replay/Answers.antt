@@ -10,7 +10,7 @@ use Rattle.promises.proofs.replay.Goals as goal
 pub returns : goal.returns
 returns c =
     let a = c.args in
-    let bytes : Bytes a.log.now = λ k. (c.shared_slice_known-1.given k).fits in
+    let bytes : Bytes a.log.now = λ k. (c.type_inv.log k).fits in
     let fresh = c.fresh-w in
     let ran = c.run in
     let told =

@@ -9,7 +9,7 @@ use Rattle.promises.proofs.run.Goals as goal
 pub returns : goal.returns
 returns c =
     let a = c.args in
-    let bytes : Bytes a.log.now = λ k. (c.shared_slice_known-1.given k).fits in
+    let bytes : Bytes a.log.now = λ k. (c.type_inv.log k).fits in
     let shaped = c.shaped.ensures in
     let told = c.run.ensures in
     record {
