@@ -3,10 +3,8 @@ use mathlib.Core.Path.{◌≡◌, refl, ap}
 use mathlib.Core.Bool.{true, false}
 use Prim.Native.Nat.{ℕ, ◌^◌, ◌≤◌, ◌<◌}
 use native.Mathlib.Omega.{arith}
-use Rattle.words.specs.declared.Next.{Next}
 use Rattle.words.specs.declared.Next.TheVariants as Nx
 use Rattle.words.specs.Steps.{map_next}
-use Rattle.words.specs.Steps as St
 use Rattle.mutex.specs.declared.LockAt.{LockAt}
 use Rattle.mutex.specs.declared.LockAt.TheVariants as L
 use Rattle.mutex.specs.declared.UnlockAt.TheVariants as U
@@ -19,7 +17,7 @@ use Rattle.condvar.specs.declared.CondvarAt.TheVariants as C
 use Rattle.condvar.specs.Condvar as Cv
 use Rattle.calls.specs.declared.At.{At}
 use Rattle.calls.specs.declared.At.TheVariants as A
-use Rattle.calls.specs.Plans.{condvar_plan, moved, decide_of, plan_of}
+use Rattle.calls.specs.Plans.{moved, decide_of, plan_of}
 use Rattle.calls.specs.Positions.{entry_of, after_wait, waits_of, in_closure, is_idle}
 use Rattle.acts.specs.Refusals.{step_refusal, wake_refusal}
 use Rattle.kept.specs.Laws.{kind_of, largest}

@@ -6,7 +6,6 @@ use native.Mathlib.Omega.{arith}
 use lib.Dec.{leb}
 use Rattle.words.specs.Atomic.{SPINS}
 use Rattle.words.specs.declared.Next.TheVariants as Nx
-use Rattle.words.specs.Steps.{moves}
 use Rattle.mutex.specs.declared.LockAt.{LockAt}
 use Rattle.mutex.specs.declared.LockAt.TheVariants as L
 use Rattle.mutex.specs.Mutex.{lock_of, lock_passed, spun, contended}

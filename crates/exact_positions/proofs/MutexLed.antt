@@ -3,7 +3,6 @@ use mathlib.Core.Path.{◌≡◌, refl, ap}
 use mathlib.Core.Bool.{true, false}
 use Prim.Native.Nat.{ℕ, ◌≤◌}
 use native.Mathlib.Omega.{arith}
-use Rattle.words.specs.declared.Next.{Next}
 use Rattle.words.specs.declared.Next.TheVariants as Nx
 use Rattle.words.specs.Steps.{map_next}
 use Rattle.mutex.specs.declared.LockAt.{LockAt}
@@ -14,7 +13,7 @@ use Rattle.mutex.specs.declared.MutexAt.TheVariants as M
 use Rattle.mutex.specs.Mutex as Mx
 use Rattle.calls.specs.declared.At.{At}
 use Rattle.calls.specs.declared.At.TheVariants as A
-use Rattle.calls.specs.Plans.{mutex_plan, moved, decide_of, plan_of}
+use Rattle.calls.specs.Plans.{moved, decide_of, plan_of}
 use Rattle.calls.specs.Positions.{entry_of, after_wait, waits_of, in_closure, is_idle}
 use Rattle.acts.specs.Refusals.{step_refusal, wake_refusal}
 use Rattle.kept.specs.Laws.{kind_of, largest}

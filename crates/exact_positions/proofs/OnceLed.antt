@@ -8,7 +8,6 @@ use borrow.Author.Tests.{eqb-true}
 use Rattle.words.specs.Atomic.{exchanges}
 use Rattle.words.specs.Once.{INCOMPLETE, POISONED, RUNNING, QUEUED, state_of, is_queued}
 use Rattle.words.specs.declared.Next.TheVariants as Nx
-use Rattle.words.specs.Steps as St
 use Rattle.once.specs.declared.Ending.TheVariants as E
 use Rattle.once.specs.declared.CallAt.{CallAt}
 use Rattle.once.specs.declared.CallAt.TheVariants as Ca
@@ -19,7 +18,7 @@ use Rattle.once.specs.declared.OnceAt.TheVariants as O
 use Rattle.once.specs.Once as On
 use Rattle.calls.specs.declared.At.{At}
 use Rattle.calls.specs.declared.At.TheVariants as A
-use Rattle.calls.specs.Plans.{once_plan, moved, entered, decide_of, plan_of}
+use Rattle.calls.specs.Plans.{moved, entered, decide_of, plan_of}
 use Rattle.calls.specs.Positions.{entry_of, in_closure, is_idle}
 use Rattle.acts.specs.Refusals.{step_refusal, close_refusal}
 use Rattle.kept.specs.Laws.{kind_of, largest}

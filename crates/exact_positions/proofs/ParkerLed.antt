@@ -5,7 +5,6 @@ use Prim.Native.Nat.{ℕ, ◌^◌, ◌<◌}
 use native.Mathlib.Omega.{arith}
 use Rattle.words.specs.Parker.{PARKED}
 use Rattle.words.specs.declared.Next.TheVariants as Nx
-use Rattle.words.specs.Steps as St
 use Rattle.thread_parking.specs.declared.ParkAt.TheVariants as Pa
 use Rattle.thread_parking.specs.declared.UnparkAt.TheVariants as Up
 use Rattle.thread_parking.specs.declared.ParkerAt.{ParkerAt}
@@ -13,7 +12,7 @@ use Rattle.thread_parking.specs.declared.ParkerAt.TheVariants as Pr
 use Rattle.thread_parking.specs.ThreadParking as Pk
 use Rattle.calls.specs.declared.At.{At}
 use Rattle.calls.specs.declared.At.TheVariants as A
-use Rattle.calls.specs.Plans.{parker_plan, moved, decide_of, plan_of}
+use Rattle.calls.specs.Plans.{moved, decide_of, plan_of}
 use Rattle.calls.specs.Positions.{entry_of, after_wait, waits_of, in_closure, is_idle}
 use Rattle.acts.specs.Refusals.{step_refusal, wake_refusal}
 use Rattle.kept.specs.Laws.{kind_of, largest}

@@ -25,7 +25,7 @@ use Rattle.rwlock.specs.RwLock as Rw
 use Rattle.rwlock.specs.Positions as RwP
 use Rattle.calls.specs.declared.At.{At}
 use Rattle.calls.specs.declared.At.TheVariants as A
-use Rattle.calls.specs.Plans.{rwlock_plan, moved, decide_of, plan_of}
+use Rattle.calls.specs.Plans.{moved, decide_of, plan_of}
 use Rattle.calls.specs.Positions.{entry_of, after_wait, waits_of, in_closure, is_idle}
 use Rattle.acts.specs.Refusals.{step_refusal, wake_refusal}
 use Rattle.kept.specs.Laws.{kind_of, largest}

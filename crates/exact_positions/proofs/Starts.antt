@@ -7,7 +7,7 @@ use Rattle.mutex.specs.declared.MutexAt.TheVariants as M
 use Rattle.mutex.specs.Mutex as Mx
 use Rattle.calls.specs.declared.At.{At}
 use Rattle.calls.specs.declared.At.TheVariants as A
-use Rattle.calls.specs.Plans.{mutex_plan, done, decide_of, plan_of}
+use Rattle.calls.specs.Plans.{done, decide_of, plan_of}
 use Rattle.calls.specs.Positions.{entry_of, in_closure, is_idle}
 use Rattle.acts.specs.Refusals.{choices_of, step_refusal}
 use Rattle.kept.specs.Laws.{kind_of, largest}

@@ -14,7 +14,6 @@ use Rattle.words.specs.declared.Next.{Next}
 use Rattle.words.specs.declared.Next.TheVariants as Nx
 use Rattle.words.specs.declared.Step.{Step}
 use Rattle.words.specs.Steps.{map_next}
-use Rattle.words.specs.Steps as St
 use Rattle.condvar.specs.declared.CondvarAt.{CondvarAt}
 use Rattle.mutex.specs.declared.LockAt.{LockAt}
 use Rattle.mutex.specs.declared.UnlockAt.{UnlockAt}

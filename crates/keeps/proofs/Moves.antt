@@ -13,11 +13,8 @@ use Rattle.words.specs.declared.Next.{Next}
 use Rattle.words.specs.declared.Next.TheVariants as Nx
 use Rattle.words.specs.declared.Step.{Step}
 use Rattle.words.specs.Steps.{map_next, map_step}
-use Rattle.mutex.specs.declared.MutexAt.{MutexAt}
 use Rattle.mutex.specs.Mutex as Mx
-use Rattle.rwlock.specs.declared.RwLockAt.{RwLockAt}
 use Rattle.rwlock.specs.RwLock as Rw
-use Rattle.condvar.specs.declared.CondvarAt.{CondvarAt}
 use Rattle.condvar.specs.Condvar as Cv
 use Rattle.once.specs.declared.CallAt.{CallAt}
 use Rattle.once.specs.declared.CallAt.TheVariants as C
@@ -26,7 +23,6 @@ use Rattle.once.specs.declared.WaitAt.TheVariants as Wt
 use Rattle.once.specs.declared.OnceAt.{OnceAt}
 use Rattle.once.specs.declared.OnceAt.TheVariants as O
 use Rattle.once.specs.Once as On
-use Rattle.thread_parking.specs.declared.ParkerAt.{ParkerAt}
 use Rattle.thread_parking.specs.ThreadParking as Pk
 use Rattle.calls.specs.declared.At.{At}
 use Rattle.calls.specs.declared.At.TheVariants as A

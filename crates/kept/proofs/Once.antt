@@ -15,7 +15,6 @@ use Rattle.words.specs.declared.Kind.TheVariants as K
 use Rattle.words.specs.declared.Wake.{Wake}
 use Rattle.words.specs.declared.Wake.TheVariants as W
 use Rattle.words.specs.declared.Step.{Step}
-use Rattle.words.specs.Steps as St
 use Rattle.once.specs.declared.CallAt.{CallAt}
 use Rattle.once.specs.declared.CallAt.TheVariants as C
 use Rattle.once.specs.declared.WaitAt.{WaitAt}

@@ -8,7 +8,6 @@ use Rattle.words.specs.Parker.{PARKED, EMPTY, NOTIFIED, is_parked, is_notified, 
 use Rattle.words.specs.declared.Hold.TheVariants as H
 use Rattle.words.specs.declared.Wake.TheVariants as W
 use Rattle.words.specs.declared.Step.{Step}
-use Rattle.words.specs.Steps as St
 use Rattle.thread_parking.specs.declared.ParkAt.{ParkAt}
 use Rattle.thread_parking.specs.declared.ParkAt.TheVariants as P
 use Rattle.thread_parking.specs.declared.UnparkAt.{UnparkAt}
