@@ -1,31 +1,26 @@
 -- A step that wakes nobody, or a begin, stored in place, is the act's answer. Assumes nothing.
-use Prim.Native.Nat.{ℕ, ◌%◌, ◌<◌}
-use native.Mathlib.Omega.{arith}
+use Prim.Native.Nat.{ℕ}
 use mathlib.Core.Path.{◌≡◌, refl, sym, ap, ◌∙◌}
 use mathlib.Core.Bool.{Bool, true, false, not, ◌&&◌}
 use lib.Dec.{eqb, ltb}
-use lib.ListN.{get_or, set}
 use borrow.Author.Tests.{eqb-true, ltb-true}
 use Rattle.std.specs.Prelude.{Some}
 use Rattle.std.proofs.lemmas.Option.{cond_some}
 use Rattle.words.specs.Found.{found}
 use Rattle.words.specs.declared.Wake.TheVariants as W
-use Rattle.queue.specs.declared.Row.{Row}
 use Rattle.queue.specs.Row.{THREADS, place_of}
 use Rattle.calls.specs.declared.At.{At}
-use Rattle.calls.specs.declared.Event.{Event}
-use Rattle.calls.specs.declared.Event.TheVariants as E
 use Rattle.calls.specs.declared.Need.{Need}
 use Rattle.calls.specs.declared.Thread.{Thread}
 use Rattle.calls.specs.declared.Plan.{Plan}
 use Rattle.calls.specs.Events.{tell_of}
 use Rattle.calls.specs.Objects.{WORDS}
-use Rattle.calls.specs.Plans.{idle, awake, decide_of}
+use Rattle.calls.specs.Plans.{decide_of}
 use Rattle.calls.specs.Positions.{operand_of, may_wake, need_of, is_idle}
 use Rattle.calls.proofs.Laws.{calm, quiet}
 use Rattle.world.specs.declared.World.{World}
 use Rattle.world.specs.World.{thread_at, word_at, on_word}
-use Rattle.world.specs.Holds.{mutex_slot, lock_slot, has_hold}
+use Rattle.world.specs.Holds.{has_hold}
 use Rattle.step.specs.declared.Acted.{Acted}
 use Rattle.step.specs.Step.{own_plan, wakes_of, apply_plan, step_of}
 use Rattle.step.specs.Acts.{recorded, begin_of}

@@ -1,11 +1,9 @@
 -- Which records the run stores in place, and what a turn of the run does. Nobody needs to believe these: no public contract cites them;
 -- `quick-step` and `begin-step` in proofs/Quick.antt say that what is stored in place is the act. Assumes nothing.
-use Rattle.std.specs.Prelude.{ℕ, ◌+◌, ◌<◌, Bool, true, false, not, ◌&&◌, ◌≡◌, eqb, ltb, leb, List, length, set, get_or, cond, Result, Ok, Err}
+use Rattle.std.specs.Prelude.{ℕ, ◌+◌, ◌<◌, Bool, true, false, not, ◌&&◌, ◌≡◌, eqb, ltb, leb, List, length, cond, Result, Ok, Err}
 use Rattle.queue.specs.Row.{THREADS}
-use Rattle.calls.specs.declared.At.{At}
 use Rattle.calls.specs.declared.Event.{Event}
 use Rattle.calls.specs.declared.Event.TheVariants as E
-use Rattle.calls.specs.declared.Plan.{Plan}
 use Rattle.calls.specs.declared.Thread.{Thread}
 use Rattle.calls.specs.Events.{tell_of}
 use Rattle.calls.specs.Positions.{may_wake, is_idle}

@@ -1,5 +1,5 @@
 -- `replay_log::run` meets its contract. Assumes nothing.
-use Rattle.std.proofs.Common.{rules, ◌≡◌, length, ap, sym, ◌∙◌, arith}
+use Rattle.std.proofs.Common.{rules, ◌∙◌, arith}
 use Rattle.std.specs.Slice.Iter.{chunks_exact_rest}
 use Rattle.replay_log.specs.Run.{state_of}
 use Rattle.replay_log.proofs.Laws.{retold, ends-so, ends-short, goes-on}
@@ -25,10 +25,13 @@ pub loop-record-preserved : goal.loop-record-preserved
 loop-record-preserved c =
     let a = c.args in
     let s = c.in-Some.ensures.steps in
-    let size = s.0 ∙ c.loop-record.invariant.2 in
-    (omega (arith, size), tt, size,
-    goes-on c.sound-sound.result a.log.now a.out.now (state_of a.w a.t a.number) c.loop-record.out c.loop-record.ran _ c.loop-record.invariant.3 c.in-Some.record.now _ s.1.0 (s.1.1 ∙ c.loop-record.invariant.2)
-    c.turn.new.self c.turn.new.out c.in_default.ensures)
+    let size = s.0 ∙ c.loop-record.invariant.2 in (
+      omega (arith, size),
+      tt,
+      size,
+      goes-on c.sound-sound.result a.log.now a.out.now (state_of a.w a.t a.number) c.loop-record.out c.loop-record.ran _ c.loop-record.invariant.3 c.in-Some.record.now _ s.1.0 (s.1.1 ∙ c.loop-record.invariant.2)
+          c.turn.new.self c.turn.new.out c.in_default.ensures,
+    )
 
 pub returns : goal.returns
 returns c =

@@ -1,4 +1,4 @@
-use Rattle.std.specs.Prelude.{◌≡◌, length}
+use Rattle.std.specs.Prelude.{◌≡◌}
 use Rattle.std.specs.Slice.Iter.{chunks_exact_size, chunks_exact_rest}
 use Rattle.replay_log.specs.Run.{state_of}
 use Rattle.replay_log.proofs.Laws.{Inv}
