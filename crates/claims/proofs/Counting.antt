@@ -68,13 +68,13 @@ module _ (acts : List Fields) (sized : Sized acts) where
   sound = (acts-sound acts sized).0
 
   mutex-sum : (m : ℕ) → m < MUTEXES → holds_by of-mutex m (history acts) ≡ mutex_holders (reached acts).locked m
-  unfolding holds_by mutex_holders count_from held_in
+  unfolding holds_by mutex_holders count_from held_in holds_mutex sum_from
   mutex-sum m h =
       sum-agree (λ (t : ℕ). bit (holds_mutex (reached acts).locked m t)) (λ (t : ℕ). held of-mutex t m (history acts)) THREADS
       (λ t i. sym (table-told acts sized of-mutex t m i h))
 
   write-sum : (l : ℕ) → l < RWLOCKS → holds_by for-writing l (history acts) ≡ writers (reached acts).written l
-  unfolding holds_by writers count_from held_in
+  unfolding holds_by writers count_from held_in holds_write sum_from
   write-sum l h =
       sum-agree (λ (t : ℕ). bit (holds_write (reached acts).written l t)) (λ (t : ℕ). held for-writing t l (history acts)) THREADS
       (λ t i. sym (table-told acts sized for-writing t l i h))

@@ -174,7 +174,7 @@ idle-marked :
     {X : Type 0} (f : X → At) (at : At) (t : ℕ) → ((e : Event) → step_marks at (grants e) t ≡ []) → (s : Step X) → s.hold ≡ H.Same →
     Marked at t (plan_of at 0 (map_step f s))
 unfolding marks_of plan_of moved slept done panicked entered
-idle-marked f at t none s h = by s.next
+idle-marked {X = X} f at t none s h = by s.next
   where
     by : (n : Next X) → Marked at t (plan_next at 0 s.word s.hold s.wake (map_next f n))
     by (Nx.Moved q) = (refl, rw h (none _))

@@ -48,47 +48,47 @@ use Rattle.claims.proofs.Asserts.{read_seen, try_seen, lock_seen, seen_at, Narro
 
 -- the step of read, try_read and try_write: the exchange that it leads to is of the word
 module _ (l word : ℕ) (wide : word < 2 ^ 32) where
-  abbrev Step : RwLockAt → Step RwLockAt → Type 0
-  Step p s = Narrow (rwlock_plan l p s).next.at
+  abbrev Leads : RwLockAt → Step RwLockAt → Type 0
+  Leads p s = Narrow (rwlock_plan l p s).next.at
 
-  read-top : (p : ReadAt) (slept : Bool) → Step (X.Read p) (Rw.read_top slept word)
+  read-top : (p : ReadAt) (slept : Bool) → Leads (X.Read p) (Rw.read_top slept word)
   unfolding seen_at lock_seen read_seen plan_of Rw.read_top moved panicked
   read-top p slept =
-      either (Step (X.Read p)) (Rw.may_read slept word) _ _ wide
-      (either (Step (X.Read p)) (has_reached_max_readers word) _ _ (omega arith)
-      (either (Step (X.Read p)) (has_readers_waiting word) _ _ (omega arith) (omega arith)))
+      either (Leads (X.Read p)) (Rw.may_read slept word) _ _ wide
+      (either (Leads (X.Read p)) (has_reached_max_readers word) _ _ (omega arith)
+      (either (Leads (X.Read p)) (has_readers_waiting word) _ _ (omega arith) (omega arith)))
 
-  read-narrow : (p : ReadAt) (f : Bool) → Step (X.Read p) (Rw.read_of p f word)
+  read-narrow : (p : ReadAt) (f : Bool) → Leads (X.Read p) (Rw.read_of p f word)
   unfolding seen_at lock_seen read_seen plan_of Rw.read_of Rw.read_after_wait moved slept done
-  read-narrow R.Load f = either (Step (X.Read R.Load)) (is_read_lockable word) _ _ wide (omega arith)
-  read-narrow (R.Exchange seen) f = either (Step (X.Read (R.Exchange seen))) (exchanges word seen f) _ _ (omega arith) (omega arith)
+  read-narrow R.Load f = either (Leads (X.Read R.Load)) (is_read_lockable word) _ _ wide (omega arith)
+  read-narrow (R.Exchange seen) f = either (Leads (X.Read (R.Exchange seen))) (exchanges word seen f) _ _ (omega arith) (omega arith)
   read-narrow (R.Spin slept left) f =
-      either (Step (X.Read (R.Spin slept left))) (Rw.stops_read word || eqb left 0) _ _ (read-top (R.Spin slept left) slept) (omega arith)
+      either (Leads (X.Read (R.Spin slept left))) (Rw.stops_read word || eqb left 0) _ _ (read-top (R.Spin slept left) slept) (omega arith)
   read-narrow (R.ExchangeContended slept seen) f =
-      either (Step (X.Read (R.ExchangeContended slept seen))) (exchanges word seen f) _ _ (omega arith) (read-top (R.ExchangeContended slept seen) slept)
+      either (Leads (X.Read (R.ExchangeContended slept seen))) (exchanges word seen f) _ _ (omega arith) (read-top (R.ExchangeContended slept seen) slept)
   read-narrow (R.SetWaiting slept seen) f =
-      either (Step (X.Read (R.SetWaiting slept seen))) (eqb word seen) _ _ (omega arith) (read-top (R.SetWaiting slept seen) slept)
-  read-narrow (R.Wait seen) f = either (Step (X.Read (R.Wait seen))) (eqb word seen) _ _ (omega arith) (omega arith)
+      either (Leads (X.Read (R.SetWaiting slept seen))) (eqb word seen) _ _ (omega arith) (read-top (R.SetWaiting slept seen) slept)
+  read-narrow (R.Wait seen) f = either (Leads (X.Read (R.Wait seen))) (eqb word seen) _ _ (omega arith) (omega arith)
 
-  try-read-top : (p : TryAt) → Step (X.TryRead p) (Rw.try_read_top word)
+  try-read-top : (p : TryAt) → Leads (X.TryRead p) (Rw.try_read_top word)
   unfolding seen_at lock_seen try_seen plan_of Rw.try_read_top moved done
-  try-read-top p = either (Step (X.TryRead p)) (is_read_lockable word) _ _ wide (omega arith)
+  try-read-top p = either (Leads (X.TryRead p)) (is_read_lockable word) _ _ wide (omega arith)
 
-  try-read-narrow : (p : TryAt) (f : Bool) → Step (X.TryRead p) (Rw.try_read_of p f word)
+  try-read-narrow : (p : TryAt) (f : Bool) → Leads (X.TryRead p) (Rw.try_read_of p f word)
   unfolding seen_at plan_of Rw.try_read_of done
   try-read-narrow T.Load f = try-read-top T.Load
   try-read-narrow (T.Exchange seen) f =
-      either (Step (X.TryRead (T.Exchange seen))) (exchanges word seen f) _ _ (omega arith) (try-read-top (T.Exchange seen))
+      either (Leads (X.TryRead (T.Exchange seen))) (exchanges word seen f) _ _ (omega arith) (try-read-top (T.Exchange seen))
 
-  try-write-top : (p : TryAt) → Step (X.TryWrite p) (Rw.try_write_top word)
+  try-write-top : (p : TryAt) → Leads (X.TryWrite p) (Rw.try_write_top word)
   unfolding seen_at lock_seen try_seen plan_of Rw.try_write_top moved done
-  try-write-top p = either (Step (X.TryWrite p)) (is_unlocked word) _ _ wide (omega arith)
+  try-write-top p = either (Leads (X.TryWrite p)) (is_unlocked word) _ _ wide (omega arith)
 
-  try-write-narrow : (p : TryAt) (f : Bool) → Step (X.TryWrite p) (Rw.try_write_of p f word)
+  try-write-narrow : (p : TryAt) (f : Bool) → Leads (X.TryWrite p) (Rw.try_write_of p f word)
   unfolding seen_at plan_of Rw.try_write_of done
   try-write-narrow T.Load f = try-write-top T.Load
   try-write-narrow (T.Exchange seen) f =
-      either (Step (X.TryWrite (T.Exchange seen))) (exchanges word seen f) _ _ (omega arith) (try-write-top (T.Exchange seen))
+      either (Leads (X.TryWrite (T.Exchange seen))) (exchanges word seen f) _ _ (omega arith) (try-write-top (T.Exchange seen))
 
 -- any other step stays in its call, where nothing is carried
 goes-narrow :

@@ -6,6 +6,7 @@ use std::fmt;
 use world::World;
 
 // A call by its name.
+#[derive(Clone, Copy)]
 pub struct Named(pub Call);
 
 impl fmt::Display for Named {

@@ -1,7 +1,8 @@
 // What is held in a world.
 use crate::forge::{self, Forge, Hold};
-use crate::records::{Record, Setting};
+use crate::records::Record;
 use crate::worlds;
+use acts::Change;
 use calls::Call;
 use std::fmt;
 use words::Kind;
@@ -45,7 +46,7 @@ impl Holding {
             Holding::ReadHeld => worlds::begun(Call::Read, 0, 0, 2),
             Holding::ReadForgotten => worlds::after(
                 world::fresh(),
-                Record::set(Setting::ForgottenReads, 0, 1),
+                Record::set(Change::ForgottenReads, 0, 1),
             ),
             Holding::WriteHeld => worlds::begun(Call::Write, 0, 0, 1),
         }

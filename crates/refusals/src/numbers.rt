@@ -1,9 +1,10 @@
 // The numbers of document 01 that are run: a call alone from its begin, in a world that acts lead to.
 use crate::calling::Named;
 use crate::lines::Answer;
-use crate::records::{Record, Setting};
+use crate::records::Record;
 use crate::shown::{Number, Told};
 use crate::worlds::after;
+use acts::Change;
 use calls::{Call, Event};
 use once::Ending;
 use std::io;
@@ -100,7 +101,7 @@ impl<'a, P: Print> Shown<'a, P> {
 // The second writer finds 0x80000001, which the first has left.
 fn write(rt: &impl Print) -> io::Result<()> {
     let mut shown = Shown::new(rt, Kind::RwLock);
-    shown.unseen(Record::set(Setting::ForgottenReads, 0, 1));
+    shown.unseen(Record::set(Change::ForgottenReads, 0, 1));
     shown.call(Call::Write, 1)?;
     shown.call(Call::Write, 0)
 }
@@ -127,7 +128,7 @@ fn notify_one(rt: &impl Print) -> io::Result<()> {
     let mut shown = Shown::new(rt, Kind::Condvar);
     shown.act(
         "set notify_one's word",
-        Record::set(Setting::Condvar, 0, 0xFFFF_FFFF),
+        Record::set(Change::Condvar, 0, 0xFFFF_FFFF),
     )?;
     shown.unseen(Record::begin(Call::NotifyOne, 0, 0));
     shown.act("its fetch_add", Record::step(0))?;

@@ -1,47 +1,38 @@
 // Records of acts.
 use crate::shown::Number;
-use acts::Fields;
+use acts::{Action, Change, Fields};
 use calls::Call;
 use once::Ending;
 use std::fmt;
 
-// What a set names, in the order of document 01's numbers.
-#[derive(Clone, Copy)]
-pub enum Setting {
-    ForgottenReads,
-    WriterNotify,
-    Condvar,
-    Complete,
-}
-
-// Act, choice, thread, object and value, in document 01's numbers.
+// Act, choice, thread, object and value, by their numbers.
 #[derive(Clone, Copy)]
 pub struct Record(pub u8, pub u8, pub u8, pub u8, pub u32);
 
 impl Record {
     pub fn begin(call: Call, thread: u8, object: u8) -> Record {
-        Record(acts::BEGIN, call as u8, thread, object, 0)
+        Record(Action::Begin as u8, call as u8, thread, object, 0)
     }
 
     pub fn step(thread: u8) -> Record {
-        Record(acts::STEP, 0, thread, 0, 0)
+        Record(Action::Step as u8, 0, thread, 0, 0)
     }
 
     // A step whose weak exchange is to fail.
     pub fn failing_step(thread: u8) -> Record {
-        Record(acts::STEP, 1, thread, 0, 0)
+        Record(Action::Step as u8, 1, thread, 0, 0)
     }
 
     pub fn wake(thread: u8) -> Record {
-        Record(acts::WAKE, 0, thread, 0, 0)
+        Record(Action::Wake as u8, 0, thread, 0, 0)
     }
 
     pub fn close(ending: Ending, thread: u8) -> Record {
-        Record(acts::CLOSE, ending as u8, thread, 0, 0)
+        Record(Action::Close as u8, ending as u8, thread, 0, 0)
     }
 
-    pub fn set(what: Setting, object: u8, value: u32) -> Record {
-        Record(acts::SET, what as u8, 0, object, value)
+    pub fn set(what: Change, object: u8, value: u32) -> Record {
+        Record(Action::Set as u8, what as u8, 0, object, value)
     }
 
     pub fn fields(self) -> Fields {

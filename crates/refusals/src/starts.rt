@@ -1,9 +1,10 @@
 // Clause 8 of soundness: while no act other than set was accepted, set acts make the world from a fresh one.
 use crate::lines;
-use crate::records::{Record, Setting};
+use crate::records::Record;
 use crate::refused::Fed;
 use crate::words_held::{LockWord, Word};
 use crate::worlds::Scene::*;
+use acts::Change;
 use std::io;
 use words::Kind;
 
@@ -40,7 +41,7 @@ const THREADS: [Fed; 2] = [
 
 // A set of the last writer_notify word.
 fn set() -> Record {
-    Record::set(Setting::WriterNotify, 3, 7)
+    Record::set(Change::WriterNotify, 3, 7)
 }
 
 pub fn lines(rt: &impl Print) -> io::Result<()> {

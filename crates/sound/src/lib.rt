@@ -60,13 +60,13 @@ pub fn sleepers_stand(w: World) -> bool
 fn mutexes_in_range(w: &World) -> bool
     ensures { result ≡ mutexes_in_range w.now.words }
 {
-    (0..MUTEXES as u8).all(|mutex| w.word_of(Kind::Mutex, mutex) <= MutexWord::CONTENDED)
+    (0..MUTEXES as u8).all(|mutex| w.word_for(Kind::Mutex, mutex) <= MutexWord::CONTENDED)
 }
 
 fn onces_in_range(w: &World) -> bool
     ensures { result ≡ onces_in_range w.now.words }
 {
-    (0..ONCES as u8).all(|once| w.word_of(Kind::Once, once) <= ONCE_MOST)
+    (0..ONCES as u8).all(|once| w.word_for(Kind::Once, once) <= ONCE_MOST)
 }
 
 // Mutex words are 0 to 2, Once words 0 to 7.
@@ -88,7 +88,7 @@ fn mutex_agrees(w: &World, mutex: u8) -> bool
     ensures { result ≡ mutex_agrees w.now.words w.now.locked mutex }
 {
     let holders = mutex_holders(w, mutex);
-    if w.word_of(Kind::Mutex, mutex) == MutexWord::UNLOCKED {
+    if w.word_for(Kind::Mutex, mutex) == MutexWord::UNLOCKED {
         holders == 0
     } else {
         holders == 1
@@ -136,7 +136,7 @@ fn count_agrees(low: u32, writing: usize, held: u64) -> bool
 fn lock_agrees(w: &World, lock: u8) -> bool
     ensures { result ≡ lock_agrees w.now.words w.now.written w.now.reads w.now.forgotten lock }
 {
-    let low = RwLockWord::count(w.word_of(Kind::RwLock, lock));
+    let low = RwLockWord::count(w.word_for(Kind::RwLock, lock));
     count_agrees(low, writers(w, lock), reads_held(w, lock))
 }
 
@@ -163,7 +163,7 @@ fn threads_rest(w: &World) -> bool
 fn mutex_rests(w: &World, mutex: u8) -> bool
     ensures { result ≡ mutex_rests w.now.words w.now.locked mutex }
 {
-    w.word_of(Kind::Mutex, mutex) == MutexWord::UNLOCKED && mutex_holders(w, mutex) == 0
+    w.word_for(Kind::Mutex, mutex) == MutexWord::UNLOCKED && mutex_holders(w, mutex) == 0
 }
 
 fn mutexes_rest(w: &World) -> bool
@@ -185,7 +185,7 @@ fn state_is_set(state: u32, forgotten: u32, writing: usize, held: u64) -> bool
 fn lock_is_set(w: &World, lock: u8) -> bool
     ensures { result ≡ lock_is_set w.now.words w.now.written w.now.reads w.now.forgotten lock }
 {
-    let state = w.word_of(Kind::RwLock, lock);
+    let state = w.word_for(Kind::RwLock, lock);
     state_is_set(
         state,
         w.forgotten_reads(lock),
@@ -203,7 +203,7 @@ fn locks_are_set(w: &World) -> bool
 fn once_is_set(w: &World, once: u8) -> bool
     ensures { result ≡ once_is_set w.now.words once }
 {
-    let word = w.word_of(Kind::Once, once);
+    let word = w.word_for(Kind::Once, once);
     word == OnceWord::INCOMPLETE || word == OnceWord::COMPLETE
 }
 
@@ -216,7 +216,7 @@ fn onces_are_set(w: &World) -> bool
 fn parkers_rest(w: &World) -> bool
     ensures { result ≡ parkers_rest w.now.words }
 {
-    (0..THREADS as u8).all(|t| w.word_of(Kind::Parker, t) == ParkerWord::EMPTY)
+    (0..THREADS as u8).all(|t| w.word_for(Kind::Parker, t) == ParkerWord::EMPTY)
 }
 
 // Whether set acts alone make the world from a fresh one.

@@ -106,7 +106,7 @@ impl World {
 
     // The word of an object; 0 where there is none.
     #[tactic(auto, using(crate::proofs::Words::word_found))]
-    pub fn word_of(&self, kind: Kind, object: u8) -> u32
+    pub fn word_for(&self, kind: Kind, object: u8) -> u32
         ensures { result ≡ get_or self.now.words (word_of kind object) 0 }
     {
         self.word(calls::word_number(kind, object).unwrap_or(WORDS))

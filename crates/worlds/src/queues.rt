@@ -20,7 +20,7 @@ impl fmt::Display for Queues<'_> {
 fn write_queue<W: fmt::Write>(f: &mut fmt::Formatter<W>, w: &World, k: usize) -> fmt::Result {
     let mut list = List::new(Label::of_word(k));
     for t in w.sleepers.places.iter().take(w.sleepers.count) {
-        let thread = world::thread_at(w.threads, *t);
+        let thread = w.thread(*t);
         if world::sleeps_on(k, *t, thread) {
             list.write_next(f)?;
             write!(f, "{t}")?;
