@@ -35,7 +35,14 @@ fn solo(w: World, t: u8, budget: u16) -> Twice<solo::Ran>
     Twice { one, two }
 }
 
-fn run(w: World, t: Tally, number: u32, log: &[u8], first: &mut [u8], second: &mut [u8]) -> Twice<replay_log::Ran>
+fn run(
+    w: World,
+    t: Tally,
+    number: u32,
+    log: &[u8],
+    first: &mut [u8],
+    second: &mut [u8],
+) -> Twice<replay_log::Ran>
     ensures { first.old ≡ second.old → (result.one ≡ result.two) × (first.new ≡ second.new) }
 {
     let one = replay_log::run(w, t, number, log, first);
@@ -43,7 +50,13 @@ fn run(w: World, t: Tally, number: u32, log: &[u8], first: &mut [u8], second: &m
     Twice { one, two }
 }
 
-fn put_line(first: &mut [u8], second: &mut [u8], at: usize, number: u32, event: Event) -> Twice<usize>
+fn put_line(
+    first: &mut [u8],
+    second: &mut [u8],
+    at: usize,
+    number: u32,
+    event: Event,
+) -> Twice<usize>
     ensures { first.old ≡ second.old → (result.one ≡ result.two) × (first.new ≡ second.new) }
 {
     let one = lines::put_line(first, at, number, event);
@@ -59,7 +72,13 @@ fn put_tally(first: &mut [u8], second: &mut [u8], at: usize, tally: Tally) -> Tw
     Twice { one, two }
 }
 
-fn put_finish(t: Tally, number: u32, left: usize, first: &mut [u8], second: &mut [u8]) -> Twice<Finished>
+fn put_finish(
+    t: Tally,
+    number: u32,
+    left: usize,
+    first: &mut [u8],
+    second: &mut [u8],
+) -> Twice<Finished>
     ensures { first.old ≡ second.old → (result.one ≡ result.two) × (first.new ≡ second.new) }
 {
     let one = replay_log::put_finish(t, number, left, first);
