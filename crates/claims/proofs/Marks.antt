@@ -16,7 +16,6 @@ use Rattle.words.specs.declared.Hold.TheVariants as H
 use Rattle.words.specs.declared.Next.{Next}
 use Rattle.words.specs.declared.Next.TheVariants as Nx
 use Rattle.words.specs.declared.Step.{Step}
-use Rattle.words.specs.Steps as St
 use Rattle.words.specs.Steps.{map_next, map_step}
 use Rattle.mutex.specs.declared.LockAt.{LockAt}
 use Rattle.mutex.specs.declared.UnlockAt.{UnlockAt}
@@ -40,8 +39,6 @@ use Rattle.condvar.specs.declared.NotifyAt.{NotifyAt}
 use Rattle.condvar.specs.declared.NotifyAt.TheVariants as Nf
 use Rattle.condvar.specs.declared.CondvarAt.{CondvarAt}
 use Rattle.condvar.specs.declared.CondvarAt.TheVariants as C
-use Rattle.once.specs.declared.OnceAt.{OnceAt}
-use Rattle.thread_parking.specs.declared.ParkerAt.{ParkerAt}
 use Rattle.mutex.specs.Mutex as Mx
 use Rattle.rwlock.specs.RwLock as Rw
 use Rattle.condvar.specs.Condvar as Cv
@@ -55,7 +52,7 @@ use Rattle.calls.specs.declared.Event.{Event}
 use Rattle.calls.specs.declared.Event.TheVariants as E
 use Rattle.calls.specs.declared.Plan.{Plan}
 use Rattle.calls.specs.Events.{tell_of, is_step}
-use Rattle.calls.specs.Plans.{moved, slept, done, panicked, entered, mutex_plan, rwlock_plan, condvar_plan, once_plan, parker_plan, decide_of, plan_next, plan_of}
+use Rattle.calls.specs.Plans.{moved, slept, done, panicked, entered, mutex_plan, rwlock_plan, condvar_plan, decide_of, plan_next, plan_of}
 use Rattle.world.specs.declared.World.{World}
 use Rattle.world.specs.World.{thread_at}
 use Rattle.acts.specs.declared.Fields.{Fields}

@@ -11,7 +11,6 @@ use Rattle.words.proofs.Cond.{either}
 use Rattle.words.specs.Atomic.{exchanges}
 use Rattle.words.specs.RwLock.{is_unlocked, has_readers_waiting, is_read_lockable, has_reached_max_readers}
 use Rattle.words.specs.declared.Step.{Step}
-use Rattle.words.specs.Steps as St
 use Rattle.rwlock.specs.declared.ReadAt.{ReadAt}
 use Rattle.rwlock.specs.declared.ReadAt.TheVariants as R
 use Rattle.rwlock.specs.declared.TryAt.{TryAt}

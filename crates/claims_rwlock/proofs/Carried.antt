@@ -14,7 +14,7 @@ use Rattle.words.specs.declared.Wake.TheVariants as W
 use Rattle.words.specs.declared.Next.{Next}
 use Rattle.words.specs.declared.Next.TheVariants as Nx
 use Rattle.words.specs.declared.Step.{Step}
-use Rattle.words.specs.Steps.{moves_with, sleeps, ends, map_next}
+use Rattle.words.specs.Steps.{moves_with, ends, map_next}
 use Rattle.rwlock.specs.declared.WriteAt.{WriteAt}
 use Rattle.rwlock.specs.declared.WriteAt.TheVariants as Wr
 use Rattle.rwlock.specs.declared.DowngradeAt.{DowngradeAt}

@@ -16,7 +16,7 @@ use Rattle.words.specs.declared.Wake.TheVariants as W
 use Rattle.words.specs.declared.Next.{Next}
 use Rattle.words.specs.declared.Next.TheVariants as Nx
 use Rattle.words.specs.declared.Step.{Step}
-use Rattle.words.specs.Steps.{moves_with, sleeps, ends, panics}
+use Rattle.words.specs.Steps.{moves_with, ends}
 use Rattle.rwlock.specs.declared.ReadAt.{ReadAt}
 use Rattle.rwlock.specs.declared.ReadAt.TheVariants as R
 use Rattle.rwlock.specs.declared.TryAt.{TryAt}

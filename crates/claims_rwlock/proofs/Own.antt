@@ -16,7 +16,7 @@ use Rattle.words.specs.declared.Wake.TheVariants as W
 use Rattle.words.specs.declared.Next.{Next}
 use Rattle.words.specs.declared.Next.TheVariants as Nx
 use Rattle.words.specs.declared.Step.{Step}
-use Rattle.words.specs.Steps.{moves_with, ends}
+use Rattle.words.specs.Steps.{ends}
 use Rattle.rwlock.specs.declared.WriteAt.TheVariants as Wr
 use Rattle.rwlock.specs.declared.WakeAt.TheVariants as Wk
 use Rattle.rwlock.specs.declared.DowngradeAt.TheVariants as D

@@ -11,10 +11,7 @@ use Rattle.words.specs.Parker.{PARKED, is_notified, is_parked}
 use Rattle.words.specs.RwLock as RwW
 use Rattle.words.specs.declared.Hold.{Hold}
 use Rattle.words.specs.declared.Wake.{Wake}
-use Rattle.words.specs.declared.Next.{Next}
-use Rattle.words.specs.declared.Next.TheVariants as Nx
 use Rattle.words.specs.declared.Step.{Step}
-use Rattle.words.specs.Steps as St
 use Rattle.words.specs.Steps.{map_step}
 use Rattle.mutex.specs.declared.LockAt.{LockAt}
 use Rattle.mutex.specs.declared.UnlockAt.{UnlockAt}
