@@ -10,7 +10,7 @@ use Rattle.acts.specs.declared.Refusal.{Refusal}
 use Rattle.acts.specs.declared.Refusal.TheVariants as R
 use Rattle.acts.specs.Numbers.{number_of, told, ToldApart}
 use Rattle.acts.specs.Refusals.{fields_refusal, start_of, step_refusal, world_refusal}
-use Rattle.acts.specs.Acts.{accepted_of, acted_of, act_of}
+use Rattle.acts.specs.Acts.{ending_of, accepted_of, acted_of, act_of}
 
 pub fields-refusal-determined : (a : Fields) → Determined (fields_refusal a)
 fields-refusal-determined a = determined (fields_refusal a)
@@ -20,6 +20,9 @@ start-determined a = determined (start_of a)
 
 pub world-refusal-determined : (w : World) (a : Fields) → Determined (world_refusal w a)
 world-refusal-determined w a = determined (world_refusal w a)
+
+pub ending-determined : (choice : ℕ) → Determined (ending_of choice)
+ending-determined choice = determined (ending_of choice)
 
 pub accepted-determined : (w : World) (a : Fields) → Determined (accepted_of w a)
 accepted-determined w a = determined (accepted_of w a)

@@ -390,10 +390,10 @@ fn set(w: World, a: Fields) -> Acted
 }
 
 // How a closure ends, by the choice of a close.
-fn ending(a: Fields) -> Ending
-    ensures { result ≡ ending_of a.choice }
+pub fn ending(choice: u8) -> Ending
+    ensures { result ≡ ending_of choice }
 {
-    match a.choice {
+    match choice {
         0 => Ending::Returned,
         1 => Ending::Poisoned,
         _ => Ending::Panicked,
@@ -409,7 +409,7 @@ pub fn accepted(w: World, a: Fields) -> Acted
         Ok(Action::Begin) => step::begin(w, a.thread, start(a)),
         Ok(Action::Step) => step::step(w, a.thread, fails(a.choice)),
         Ok(Action::Wake) => step::wake(w, a.thread),
-        _ => step::close(w, a.thread, ending(a)),
+        _ => step::close(w, a.thread, ending(a.choice)),
     }
 }
 

@@ -5,7 +5,10 @@ use lib.ListN.{length}
 use Rattle.words.specs.Determined.{Determined, determined}
 use Rattle.calls.specs.declared.Event.{Event}
 use Rattle.tally.specs.declared.Tally.{Tally}
-use Rattle.lines.specs.Lines.{line_of, tally_line, lay_of, end_of}
+use Rattle.lines.specs.Lines.{name_of, line_of, tally_line, lay_of, end_of}
+
+pub name-determined : (event : Event) → Determined (name_of event)
+name-determined event = determined (name_of event)
 
 pub line-length-determined : (number : ℕ) (event : Event) → Determined (length (line_of number event))
 line-length-determined number event = determined (length (line_of number event))

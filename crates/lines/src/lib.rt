@@ -56,7 +56,7 @@ impl<const SIZE: usize> Text<SIZE> {
 }
 
 // The word for an event.
-fn name(event: Event) -> &'static [u8]
+pub fn name(event: Event) -> &'static [u8]
     ensures { (result.now ≡ name_of event) × (length result.now ≤ 7) }
 {
     match event {

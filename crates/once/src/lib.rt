@@ -208,7 +208,7 @@ pub fn wait(ignores: bool, at: WaitAt, fails: bool, word: u32) -> Step<OnceAt>
 pub fn is_completed(word: u32) -> Step<OnceAt>
     ensures { result ≡ is_completed_of word }
 {
-    let value = if word == OnceWord::COMPLETE { 1 } else { 0 };
+    let value = u8::from(word == OnceWord::COMPLETE);
     Step::ends(word, value, Hold::Same, Wake::None)
 }
 
@@ -283,7 +283,7 @@ pub fn after_wait(at: OnceAt) -> OnceAt
             ignores,
             at: wait_after_wait(at),
         },
-        OnceAt::IsCompleted => OnceAt::IsCompleted,
+        other => other,
     }
 }
 

@@ -159,7 +159,7 @@ impl From<Record> for At {
             30 => call(CallAt::ExchangeRunning { seen }),
             31 => call(CallAt::Closure),
             32 => call(CallAt::Swap {
-                ending: record.ending(),
+                ending: acts::ending(record.ending),
             }),
             33 => call(CallAt::WakeAll { panicking: flag }),
             34 => call(CallAt::ExchangeQueued { seen }),
@@ -202,14 +202,6 @@ impl From<Record> for At {
 }
 
 impl Record {
-    fn ending(&self) -> Ending {
-        match self.ending {
-            0 => Ending::Returned,
-            1 => Ending::Poisoned,
-            _ => Ending::Panicked,
-        }
-    }
-
     fn object(self, object: u8) -> Record {
         Record { object, ..self }
     }
@@ -346,12 +338,10 @@ impl From<CallAt> for Record {
 }
 
 fn ended(how: Ending) -> Record {
-    let ending = match how {
-        Ending::Returned => 0,
-        Ending::Poisoned => 1,
-        Ending::Panicked => 2,
-    };
-    Record { ending, ..at(32) }
+    Record {
+        ending: how as u8,
+        ..at(32)
+    }
 }
 
 impl From<once::WaitAt> for Record {

@@ -40,7 +40,7 @@ fn write_act<W: fmt::Write>(
     fields: Fields,
 ) -> fmt::Result {
     let acted = acts::act(world, fields);
-    let name = event_name(acted.event);
+    let name = str::from_utf8(lines::name(acted.event)).unwrap_or_default();
     let value = calls::value(acted.event);
     let woken = calls::woken(acted.event);
     write!(f, " {name} {value} {woken} {}", Hex(&acted.world))
@@ -63,19 +63,4 @@ fn write_solo<W: fmt::Write>(
         ran.woken,
         Hex(&ran.world)
     )
-}
-
-fn event_name(event: Event) -> &'static str {
-    match event {
-        Event::Set => "set",
-        Event::Begun => "begun",
-        Event::Moved { .. } => "moved",
-        Event::Done { .. } => "done",
-        Event::Slept => "slept",
-        Event::Panic { .. } => "panic",
-        Event::Closure => "closure",
-        Event::Woken => "woken",
-        Event::Closed => "closed",
-        Event::Refused { .. } => "refused",
-    }
 }
