@@ -1,17 +1,16 @@
 -- The loop of `run`: what is left of the run, behind what was written, is the whole run. Assumes nothing.
-use Prim.Native.Nat.{ℕ, zero, suc, ◌+◌, ◌-◌, ◌≤◌, ◌<◌, min}
+use Prim.Native.Nat.{ℕ, ◌+◌, ◌-◌, ◌≤◌, ◌<◌, min}
 use native.Mathlib.Nat.{add-zero, sub-zero, zero-add}
 use native.Mathlib.Omega.{arith}
 use mathlib.Core.Path.{◌≡◌, refl, sym, ap, subst, ◌∙◌}
 use mathlib.Core.Bool.{Bool, true, false}
 use mathlib.Core.List.{List, [], ◌++◌, append_assoc}
-use lib.Dec.{eqb, leb, ltb}
+use lib.Dec.{eqb, leb}
 use lib.ListN.{length, take, drop, length-append, length-drop, length-take}
 use lib.Seq.{drop-drop, length-take-le, take_all}
-use borrow.Author.Tests.{leb-true, leb-false, le-leb, lt-leb, lt-ltb, ltb-true, eqb-true, ne_eqb}
-use Rattle.std.specs.Prelude.{Some, None, Result, Ok, Err}
+use borrow.Author.Tests.{leb-true, leb-false, le-leb, lt-leb, eqb-true}
+use Rattle.std.specs.Prelude.{Option, Some, None, Result, Ok, Err}
 use Rattle.std.specs.List.{copy_within}
-use Rattle.std.proofs.lemmas.Option.{none-some, cond_some}
 use Rattle.calls.specs.declared.Event.{Event}
 use Rattle.calls.specs.declared.Event.TheVariants as E
 use Rattle.tally.specs.declared.Tally.{Tally}
@@ -27,7 +26,10 @@ use Rattle.replay_log.specs.declared.Stop.{Stop}
 use Rattle.replay_log.specs.declared.Stop.TheVariants as S
 use Rattle.replay_log.specs.declared.Ran.{Ran}
 use Rattle.replay_log.specs.declared.Finished.{Finished}
-use Rattle.replay_log.specs.Run.{LAST, State, Run, Answers, answer_of, if_any, stopped, prefixed, fields_of, noted, ending_of, last_line, last_state, turn_of, record_line, record_state, run_of, state_of, ran_of, finish_of, finished_tally, finished_line, finished_of, moved_of, carried_of}
+use Rattle.replay_log.specs.declared.Refusal.{Refusal}
+use Rattle.replay_log.specs.declared.Refusal.TheVariants as R
+use Rattle.replay_log.specs.Numbers.{number_of, number_told}
+use Rattle.replay_log.specs.Run.{LAST, State, Run, Answers, answer_of, stopped, prefixed, fields_of, noted, ending_of, last_line, last_state, turn_of, record_line, record_state, run_of, state_of, ran_of, finish_of, finished_tally, finished_line, finished_of, moved_of, carried_of}
 use Rattle.replay_log.specs.InPlace.{fits, told, Told, NoRoom, Tells, acted_on, Acted_on, Acts, answer_in, next_event, numbered_on, Went, Ends, Turns}
 use Rattle.replay_log.proofs.Unroll.{prefixed-none, prefixed-twice, runs-out, unroll-record, turn-goes, turn-full, turn-ends, turn-ends-full}
 
@@ -73,17 +75,17 @@ module _ (e : Event) (grant : Bool) (r : Ran) (out out' : List ℕ) {next : ℕ}
       }
 
 -- no refusal, or one
-pub if-none : (n : ℕ) → None ≡ if_any n → n ≡ 0
-unfolding if_any
-if-none zero e = refl
-if-none (suc n) e = absurd (none-some (suc n) (e ∙ rw (lt-ltb 0 (suc n) (omega arith)) refl))
+pub if-none : (n : ℕ) (o : Option Refusal) → o ≡ None → number_told o ≡ n → n ≡ 0
+if-none n o e told = sym told ∙ ap number_told e
 
-pub if-some : (n number : ℕ) → Some number ≡ if_any n → (eqb number 0 ≡ false) × (number ≡ n)
-unfolding if_any
-if-some n number e =
-    let h : (ltb 0 n ≡ true) × (n ≡ number) = cond_some (ltb 0 n) n number (sym e) in
-    let some : 0 < n = ltb-true 0 n h.0 in
-    let z : number ≡ 0 → ⊥ = λ i. omega (arith, h.1, i) in (ne_eqb number 0 z, sym h.1)
+some_number : (refusal : Refusal) → eqb (number_of refusal) 0 ≡ false
+some_number R.BadMark = refl
+some_number R.ShortRecord = refl
+some_number R.NoNumber = refl
+
+pub if-some :
+    (n number : ℕ) (o : Option Refusal) (refusal : Refusal) → o ≡ Some refusal → number ≡ number_of refusal → number_told o ≡ n → (eqb number 0 ≡ false) × (number ≡ n)
+if-some n number o refusal e is told = (ap (λ (k : ℕ). eqb k 0) is ∙ some_number refusal, is ∙ (sym (ap number_told e) ∙ told))
 
 -- a record that has a number leaves one for the next
 pub numbered : (number : ℕ) (l : List ℕ) → ending_of number l ≡ 0 → number ≡ LAST → ⊥
@@ -133,9 +135,9 @@ unfolding Acts acted_on
 acted_number a d r r' out out' t = ap (λ (x : Ran). x.number) t.after
 
 -- the refusal that ends the run is what is told next
-pub refusal-next : (sound : Bool) (l : List ℕ) (r : Ran) (number : ℕ) → Some number ≡ if_any (ending_of r.number l) → E.Refused number ≡ next_event sound l r
+pub refusal-next : (sound : Bool) (l : List ℕ) (r : Ran) (number : ℕ) → (eqb number 0 ≡ false) × (number ≡ ending_of r.number l) → E.Refused number ≡ next_event sound l r
 unfolding next_event
-refusal-next sound l r number e = let h = if-some (ending_of r.number l) number e in rw (← h.1, h.0) refl
+refusal-next sound l r number h = rw (← h.1, h.0) refl
 
 -- a turn over a record that has an act
 module _ (sound : Bool) (l : List ℕ) (r r' : Ran) (out out' : List ℕ) (a : Fields) (z : ending_of r.number l ≡ 0) (ea : a ≡ fields_of l) where

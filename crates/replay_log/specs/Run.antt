@@ -1,5 +1,5 @@
 -- The run of a log of records, ten bytes each: the lines, the world and the tally. Assumes nothing.
-use Rattle.std.specs.Prelude.{Option, Some, None, ℕ, ◌+◌, ◌-◌, ◌*◌, ◌≤◌, ◌≡◌, Bool, false, cond, ◌&&◌, List, [], ◌∷◌, ◌++◌, eqb, ltb, leb, length, get_or, take, drop}
+use Rattle.std.specs.Prelude.{ℕ, ◌+◌, ◌-◌, ◌*◌, ◌≤◌, ◌≡◌, Bool, false, cond, ◌&&◌, List, [], ◌∷◌, ◌++◌, eqb, ltb, leb, length, get_or, take, drop}
 use Rattle.calls.specs.declared.Event.TheVariants as E
 use Rattle.tally.specs.declared.Tally.{Tally}
 use Rattle.tally.specs.Tally.{add_event, grants_of}
@@ -28,10 +28,6 @@ fields_of l = record {
   object = get_or l 5 0;
   value = get_or l 6 0 + get_or l 7 0 * 256 + get_or l 8 0 * 65536 + get_or l 9 0 * 16777216;
 }
-
--- a refusal's number, if there is one: 0 is none
-unfoldable pub if_any : ℕ → Option ℕ
-if_any n = cond (ltb 0 n) (Some n) None
 
 -- whether they begin with the mark 0xB1 0x6B
 unfoldable pub mark_of : List ℕ → Bool

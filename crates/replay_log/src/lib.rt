@@ -1,6 +1,6 @@
 // The run of a log: records of ten bytes, one line for each, and a tally. A log can be run in parts, each
 // from the world, the tally and the number that the part before it reached.
-#![tactic(auto, unfolding(step::specs::Acts::begin_of, step::specs::Acts::recorded, step::specs::Step::own_plan, crate::specs::InPlace::Acts, crate::specs::InPlace::Tells, crate::specs::InPlace::Turns, crate::specs::InPlace::quick_begin, crate::specs::InPlace::quick_of, crate::specs::InPlace::stored_by, crate::specs::InPlace::told_by, crate::specs::Run::answer_of, crate::specs::Run::ending_of, crate::specs::Run::finish_of, crate::specs::Run::if_any, crate::specs::Run::mark_of))]
+#![tactic(auto, unfolding(step::specs::Acts::begin_of, step::specs::Acts::recorded, step::specs::Step::own_plan, crate::specs::InPlace::Acts, crate::specs::InPlace::Tells, crate::specs::InPlace::Turns, crate::specs::InPlace::quick_begin, crate::specs::InPlace::quick_of, crate::specs::InPlace::stored_by, crate::specs::InPlace::told_by, crate::specs::Run::answer_of, crate::specs::Run::ending_of, crate::specs::Run::finish_of, crate::specs::Run::mark_of))]
 
 ghost use Rattle.std.specs.Prelude.{◌≡◌, ◌-◌, ◌≤◌, ◌<◌, min, length, take, drop, IfSome};
 ghost use Rattle.queue.specs.Row.{THREADS};
@@ -8,7 +8,8 @@ ghost use Rattle.tally.specs.Tally.{grants_of};
 ghost use Rattle.sound.specs.Sound.{sound_world};
 ghost use Rattle.lines.specs.Lines.{lay_of};
 ghost use Rattle.world.specs.World.{thread_at};
-ghost use Rattle.replay_log.specs.Run.{IsPrefixLen, fields_of, mark_of, if_any, ending_of, answer_of, run_of, state_of, Answers, carried_of, finish_of, finished_line, finished_of};
+ghost use Rattle.replay_log.specs.Numbers.{number_of, number_told};
+ghost use Rattle.replay_log.specs.Run.{IsPrefixLen, fields_of, mark_of, ending_of, answer_of, run_of, state_of, Answers, carried_of, finish_of, finished_line, finished_of};
 ghost use Rattle.replay_log.specs.InPlace.{quick_of, quick_begin, told_by, stored_by, Does, Tells, Acts, Turns};
 
 use acts::{Action, Fields};
@@ -20,6 +21,24 @@ use world::World;
 
 // A record is so many bytes.
 pub const RECORD: usize = 10;
+
+// What a log is refused for, with the number that is told of it.
+#[derive(Clone, Copy, Debug, PartialEq, Eq)]
+pub enum Refusal {
+    BadMark = 20,
+    // fewer bytes are left than a record has
+    ShortRecord,
+    // the numbers are used up
+    NoNumber,
+}
+
+impl Refusal {
+    pub fn number(self) -> u8
+        ensures { result ≡ number_of self }
+    {
+        self as u8
+    }
+}
 
 // Why a run stopped.
 #[derive(Clone, Copy)]
@@ -54,13 +73,6 @@ pub struct Finished {
 // So many records have numbers; any byte behind them is refused.
 const LAST: u32 = 0xFFFF_FFFF;
 
-// What ends a run: a bad mark, too few bytes for a record, no number left.
-const BAD_MARK: u8 = 20;
-
-const SHORT_RECORD: u8 = 21;
-
-const NO_NUMBER: u8 = 22;
-
 // The fields of the record that the bytes begin with.
 fn fields(l: &[u8]) -> Fields
     requires { 10 ≤ length l.now }
@@ -84,17 +96,17 @@ fn is_marked(l: &[u8]) -> bool
 }
 
 // The refusal that ends a run before a record: the numbers are used up, or its mark is bad.
-fn ending(number: u32, l: &[u8]) -> Option<u8>
+fn ending(number: u32, l: &[u8]) -> Option<Refusal>
     requires { 10 ≤ length l.now }
-    ensures { result ≡ if_any (ending_of number l.now) }
+    ensures { number_told result ≡ ending_of number l.now }
 {
     if number == LAST {
-        return Some(NO_NUMBER);
+        return Some(Refusal::NoNumber);
     }
     if is_marked(l) {
         return None;
     }
-    Some(BAD_MARK)
+    Some(Refusal::BadMark)
 }
 
 // An act's answer, soundness having been tested before the first record.
@@ -105,7 +117,9 @@ fn answer(sound: bool, w: World, a: Fields) -> Acted
         return acts::acted(w, a);
     }
     Acted {
-        event: Event::Refused { number: 19 },
+        event: Event::Refused {
+            number: acts::Refusal::Unsound.number(),
+        },
         world: w,
     }
 }
@@ -152,7 +166,7 @@ impl InPlace {
     {
         if is_quick(sound, a, th) {
             let k = calls::operand(a.thread, th.at)?;
-            let plan = calls::decide(th.at, a.choice == 1, w.word(k), false);
+            let plan = calls::decide(th.at, acts::fails(a.choice), w.word(k), false);
             return Some(InPlace::Step { k, plan });
         }
         let at = acts::start(a);
@@ -235,7 +249,8 @@ impl Ran {
         requires { 10 ≤ length l.now }
         ensures { Turns sound l.now self.old self.new out.old out.new result }
     {
-        if let Some(number) = ending(self.number, l) {
+        if let Some(refusal) = ending(self.number, l) {
+            let number = refusal.number();
             self.tell(Event::Refused { number }, false, out)?;
             return Err(Stop::Ended { number });
         }
@@ -288,17 +303,17 @@ pub fn run_from(w: World, t: Tally, number: u32, log: &[u8], from: usize, out: &
 
 // The refusal behind the last run, with so many bytes left: any byte once the numbers are used up, else fewer
 // than a record has.
-pub fn finish(number: u32, left: usize) -> Option<u8>
-    ensures { result ≡ if_any (finish_of number left) }
+pub fn finish(number: u32, left: usize) -> Option<Refusal>
+    ensures { number_told result ≡ finish_of number left }
 {
     if left == 0 {
         return None;
     }
     if number == LAST {
-        return Some(NO_NUMBER);
+        return Some(Refusal::NoNumber);
     }
     if left < RECORD {
-        return Some(SHORT_RECORD);
+        return Some(Refusal::ShortRecord);
     }
     None
 }
@@ -311,7 +326,9 @@ pub fn put_finish(t: Tally, number: u32, left: usize, out: &mut [u8]) -> Finishe
     match finish(number, left) {
         None => Finished { tally: t, count: 0 },
         Some(refusal) => {
-            let e = Event::Refused { number: refusal };
+            let e = Event::Refused {
+                number: refusal.number(),
+            };
             Finished {
                 count: lines::put_line(out, 0, number, e),
                 tally: t.noted(e, false),
