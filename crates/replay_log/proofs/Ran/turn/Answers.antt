@@ -20,7 +20,7 @@ returns-in_err-quick_act c =
 
 pub overflow_add-self : goal.overflow_add-self
 overflow_add-self c =
-    let more = numbered c.args.self.now.number c.args.l.now (if-none _ _ c.in_default.is c.ending.ensures) in
+    let more = numbered c.args.self.now.state.number c.args.l.now (if-none _ _ c.in_default.is c.ending.ensures) in
     search (rules, acted_number _ _ _ _ _ _ c.in_ok-quick_act.ensures, more)
 
 pub returns : goal.returns
