@@ -36,6 +36,9 @@ act-determined w a = determined (act_of w a)
 pub step-refusal-determined : (th : Thread) (choice : ℕ) → Determined (step_refusal th choice)
 step-refusal-determined th choice = determined (step_refusal th choice)
 
+pub fails-determined : (choice : ℕ) → Determined (eqb choice 1)
+fails-determined choice = determined (eqb choice 1)
+
 pub number-determined : (refusal : Refusal) → Determined (number_of refusal)
 number-determined refusal = determined (number_of refusal)
 

@@ -281,7 +281,7 @@ fn begin_refusal(w: &World, a: Fields) -> Result<(), Refusal>
 }
 
 // Whether a step's choice is that its weak exchange fails.
-fn fails(choice: u8) -> bool
+pub fn fails(choice: u8) -> bool
     ensures { result ≡ eqb choice 1 }
 {
     choice == 1

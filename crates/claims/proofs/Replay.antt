@@ -21,7 +21,8 @@ use Rattle.kept.proofs.Shape.{fresh-shaped}
 use Rattle.kept.proofs.Tests.{decided}
 use Rattle.replay_log.specs.declared.Stop.{Stop}
 use Rattle.replay_log.specs.declared.Stop.TheVariants as S
-use Rattle.replay_log.specs.Run.{LAST, fields_of, State, state_of, noted, Run, prefixed, ending_of, record_line, record_state, run_of}
+use Rattle.replay_log.specs.declared.State.{State}
+use Rattle.replay_log.specs.Run.{LAST, fields_of, state_of, noted, Run, prefixed, ending_of, record_line, record_state, run_of}
 use Rattle.parts.specs.Parts.{has_ended, Bytes, part_run, Part, bytes_of, Reached, after, parts_from}
 use Rattle.parts.proofs.Turns.{by-records}
 use Rattle.parts.specs.Flags.{Kept}

@@ -3,10 +3,9 @@
 // hand from document 01.
 #![tactic(auto)]
 
-use replay_log::{Ran, Stop};
+use replay_log::{Ran, State, Stop};
 use std::{fmt, io};
 use tally::Tally;
-use world::World;
 
 // More bytes than any run here writes.
 const BUFFER: usize = 4096;
@@ -22,22 +21,26 @@ const EXAMPLE: &[u8; 40] = b"\
 // How the example is run.
 #[derive(Clone, Copy)]
 struct Run {
-    world: World,
-    tally: Tally,
-    // the first record's
-    number: u32,
+    state: State,
     // where in the example's bytes it starts
     from: usize,
     // for how many bytes of lines there is room
     room: usize,
 }
 
-// From its start, on a fresh world, with nothing counted.
-fn example() -> Run {
-    Run {
+// A fresh world, with nothing counted.
+fn start() -> State {
+    State {
         world: world::fresh(),
         tally: Tally::nothing(),
         number: 0,
+    }
+}
+
+// From its start, and from the start of all.
+fn example() -> Run {
+    Run {
+        state: start(),
         from: 0,
         room: BUFFER,
     }
@@ -74,7 +77,7 @@ impl<P: Print> Page<'_, P> {
     fn run(&mut self, run: Run) -> Ran {
         let room = replay_log::within(run.room, &self.out);
         let out = &mut self.out[..room];
-        replay_log::run_from(run.world, run.tally, run.number, EXAMPLE, run.from, out)
+        replay_log::run_from(run.state, EXAMPLE, run.from, out)
     }
 
     // The lines of a run and what it reached.
@@ -83,7 +86,7 @@ impl<P: Print> Page<'_, P> {
         self.print(ran.count)?;
         println!(self.rt;
             "next {}, used {}, wrote {}, {}",
-            ran.number,
+            ran.state.number,
             ran.used,
             ran.count,
             Told(ran.stop)
@@ -110,11 +113,9 @@ fn main(rt: HostRuntime) -> io::Result<()> {
     let mut page = Page { rt: &rt, out };
     for number in [4294967291, 4294967293, 4294967295] {
         println!(rt; "first number {number}")?;
-        let ran = page.tell(Run {
-            number,
-            ..example()
-        })?;
-        page.tell_tally(ran.tally)?;
+        let state = State { number, ..start() };
+        let ran = page.tell(Run { state, ..example() })?;
+        page.tell_tally(ran.state.tally)?;
     }
     println!(rt; "0 bytes left behind the last number")?;
     page.tell_finish(4294967295, 0)?;
@@ -132,10 +133,10 @@ fn main(rt: HostRuntime) -> io::Result<()> {
         page.tell(Run { from, ..example() })?;
     }
     println!(rt; "a world whose parts disagree")?;
-    let mut world = world::fresh();
-    world.words[0] = 3;
-    let ran = page.tell(Run { world, ..example() })?;
-    page.tell_tally(ran.tally)?;
+    let mut state = start();
+    state.world.words[0] = 3;
+    let ran = page.tell(Run { state, ..example() })?;
+    page.tell_tally(ran.state.tally)?;
     println!(rt; "counts near their largest")?;
     let mut tally = Tally {
         grants: u64::MAX - 1,
@@ -145,7 +146,8 @@ fn main(rt: HostRuntime) -> io::Result<()> {
         refused: u64::MAX - 1,
     };
     for _ in 0..2 {
-        tally = page.run(Run { tally, ..example() }).tally;
+        let state = State { tally, ..start() };
+        tally = page.run(Run { state, ..example() }).state.tally;
         page.tell_tally(tally)?;
     }
     Ok(())

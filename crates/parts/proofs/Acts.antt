@@ -18,7 +18,8 @@ use Rattle.sound.specs.Sound.{sound_world}
 use Rattle.kept.proofs.Tests.{no_way}
 use Rattle.replay_log.specs.declared.Stop.{Stop}
 use Rattle.replay_log.specs.declared.Stop.TheVariants as S
-use Rattle.replay_log.specs.Run.{LAST, fields_of, mark_of, State, answer_of, noted, Run, prefixed, ending_of, turn_of, record_line, record_state, run_of}
+use Rattle.replay_log.specs.declared.State.{State}
+use Rattle.replay_log.specs.Run.{LAST, fields_of, mark_of, answer_of, noted, Run, prefixed, ending_of, turn_of, record_line, record_state, run_of}
 use Rattle.replay_log.proofs.Unroll.{runs-out, unroll}
 use Rattle.parts.specs.Parts.{is_room, Bytes, ample, whole_run, acts_run, run_by_acts}
 use Rattle.parts.proofs.Turns.{by-tens, by-records}

@@ -14,7 +14,8 @@ use Rattle.kept.specs.Shape.{Shaped}
 use Rattle.kept.proofs.Tests.{decided}
 use Rattle.replay_log.specs.declared.Stop.{Stop}
 use Rattle.replay_log.specs.declared.Stop.TheVariants as S
-use Rattle.replay_log.specs.Run.{LAST, fields_of, mark_of, State, Run, last_line, turn_of, ending_of, record_line, record_state, run_of}
+use Rattle.replay_log.specs.declared.State.{State}
+use Rattle.replay_log.specs.Run.{LAST, fields_of, mark_of, Run, last_line, turn_of, ending_of, record_line, record_state, run_of}
 use Rattle.replay_log.proofs.Unroll.{runs-out, unroll, turn-goes, turn-ends}
 use Rattle.parts.specs.Parts.{is_room, has_ended, Bytes, part_run, Part, AllHaveRoom, no_part, one-part, BUFFER, buffered, Chunks, no_chunk, one_chunk, bytes_of, Reached, after, parts_from}
 use Rattle.parts.proofs.Turns.{by-tens, by-records}

@@ -17,7 +17,8 @@ use Rattle.acts.specs.Acts.{act_of}
 use Rattle.acts.proofs.Laws.{unsound-refused}
 use Rattle.kept.specs.Shape.{Shaped}
 use Rattle.keeps.proofs.Keeps.{act-sound, act-shaped}
-use Rattle.replay_log.specs.Run.{fields_of, answer_of, noted, State, Run, record_state}
+use Rattle.replay_log.specs.declared.State.{State}
+use Rattle.replay_log.specs.Run.{fields_of, answer_of, noted, Run, record_state}
 use Rattle.parts.specs.Parts.{Bytes}
 use Rattle.parts.proofs.Turns.{by-records}
 use Rattle.parts.specs.Flags.{Kept}

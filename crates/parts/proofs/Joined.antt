@@ -16,7 +16,8 @@ use Rattle.kept.specs.Shape.{Shaped}
 use Rattle.kept.proofs.Tests.{no_way, decided}
 use Rattle.replay_log.specs.declared.Stop.{Stop}
 use Rattle.replay_log.specs.declared.Stop.TheVariants as S
-use Rattle.replay_log.specs.Run.{fields_of, mark_of, State, answer_of, noted, Run, stopped, prefixed, ending_of, last_line, turn_of, record_line, record_state, run_of}
+use Rattle.replay_log.specs.declared.State.{State}
+use Rattle.replay_log.specs.Run.{fields_of, mark_of, answer_of, noted, Run, stopped, prefixed, ending_of, last_line, turn_of, record_line, record_state, run_of}
 use Rattle.replay_log.proofs.Unroll.{prefixed-none, prefixed-twice, runs-out, unroll, turn-goes, turn-ends}
 use Rattle.parts.specs.Parts.{is_room, has_ended, Bytes, part_run, ample, whole_run, Part, roomy, bytes_of, Reached, after, parts_from, in_parts, in_one_piece, left_refusal, told_with, told_of}
 use Rattle.parts.proofs.Turns.{by-records}

@@ -16,7 +16,8 @@ use Rattle.lines.specs.Lines.{digit, text_from, decimal_of, line_of}
 use Rattle.lines.proofs.Line.{line-sum, name-length}
 use Rattle.kept.proofs.Tests.{no_way}
 use Rattle.replay_log.specs.declared.Stop.TheVariants as S
-use Rattle.replay_log.specs.Run.{State, noted, Run, prefixed, last_line, record_line, record_state, run_of}
+use Rattle.replay_log.specs.declared.State.{State}
+use Rattle.replay_log.specs.Run.{noted, Run, prefixed, last_line, record_line, record_state, run_of}
 use Rattle.replay_log.proofs.Unroll.{runs-out, unroll, turn-goes, turn-ends}
 use Rattle.parts.specs.Parts.{is_room, has_ended, LONGEST, ample}
 use Rattle.parts.proofs.Turns.{by-records}

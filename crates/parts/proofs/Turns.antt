@@ -11,7 +11,8 @@ use Rattle.calls.specs.declared.Event.{Event}
 use Rattle.calls.specs.declared.Event.TheVariants as E
 use Rattle.lines.specs.Lines.{line_of}
 use Rattle.replay_log.specs.declared.Stop.TheVariants as S
-use Rattle.replay_log.specs.Run.{State, Run, stopped, prefixed, ending_of, last_line, last_state, turn_of, record_answer, record_line, record_state, run_of}
+use Rattle.replay_log.specs.declared.State.{State}
+use Rattle.replay_log.specs.Run.{Run, stopped, prefixed, ending_of, last_line, last_state, turn_of, record_answer, record_line, record_state, run_of}
 use Rattle.replay_log.proofs.Unroll.{runs-out, unroll, turn-goes, turn-full, turn-ends, turn-ends-full}
 
 -- a list, ten by ten

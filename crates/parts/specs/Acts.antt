@@ -7,7 +7,8 @@ use Rattle.tally.specs.Tally.{add_event}
 use Rattle.lines.specs.Lines.{line_of}
 use Rattle.replay_log.specs.declared.Stop.{Stop}
 use Rattle.replay_log.specs.declared.Stop.TheVariants as S
-use Rattle.replay_log.specs.Run.{mark_of, State, Run}
+use Rattle.replay_log.specs.declared.State.{State}
+use Rattle.replay_log.specs.Run.{mark_of, Run}
 
 -- the lines of so many refusals 19, from a number on, and the tally with them
 unfoldable pub refusals : ℕ → ℕ → List ℕ

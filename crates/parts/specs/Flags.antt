@@ -3,7 +3,7 @@
 use Rattle.std.specs.Prelude.{◌≡◌, Bool}
 use Rattle.sound.specs.Sound.{sound_world}
 use Rattle.kept.specs.Shape.{Shaped}
-use Rattle.replay_log.specs.Run.{State}
+use Rattle.replay_log.specs.declared.State.{State}
 
 -- what a record keeps
 pub record Kept (sound : Bool) (s : State) : Type 0 where

@@ -8,7 +8,8 @@ use Rattle.sound.specs.Sound.{sound_world}
 use Rattle.acts.specs.Acts.{act_of}
 use Rattle.replay_log.specs.declared.Stop.{Stop}
 use Rattle.replay_log.specs.declared.Stop.TheVariants as S
-use Rattle.replay_log.specs.Run.{fields_of, State, noted, Run, stopped, prefixed, turn_of, run_of, finish_of, finished_tally, finished_line}
+use Rattle.replay_log.specs.declared.State.{State}
+use Rattle.replay_log.specs.Run.{fields_of, noted, Run, stopped, prefixed, turn_of, run_of, finish_of, finished_tally, finished_line}
 
 -- whether a run stopped for want of room, or by a refusal behind which nothing is run
 abbrev pub is_room : Stop → Bool

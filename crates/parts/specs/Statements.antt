@@ -1,7 +1,8 @@
 -- A log run in parts, a run as a row of acts, and the room of its lines: the statements. Assumes nothing.
 use Rattle.std.specs.Prelude.{ℕ, ◌+◌, ◌-◌, ◌*◌, ◌/◌, ◌≤◌, ◌<◌, ◌≡◌, Bool, false, List, map, length}
 use Rattle.replay_log.specs.declared.Stop.TheVariants as S
-use Rattle.replay_log.specs.Run.{State, run_of, LAST}
+use Rattle.replay_log.specs.declared.State.{State}
+use Rattle.replay_log.specs.Run.{run_of, LAST}
 use Rattle.parts.specs.Parts.{is_room, Bytes, part_run, whole_run, Part, roomy, bytes_of, in_parts, in_one_piece, told_of, AllHaveRoom, CHUNK, BUFFER, buffered, Chunks, run_by_acts}
 use Rattle.sound.specs.Sound.{sound_world}
 use Rattle.kept.specs.Shape.{Shaped}

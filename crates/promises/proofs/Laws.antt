@@ -14,6 +14,7 @@ use Rattle.kept.specs.Shape.{Shaped}
 use Rattle.kept.proofs.Tests.{decided}
 use Rattle.keeps.proofs.Solo.{solo-keeps}
 use Rattle.exact.proofs.Solo.{unsound-solo}
+use Rattle.replay_log.specs.declared.State.{State}
 use Rattle.replay_log.specs.declared.Ran.{Ran}
 use Rattle.replay_log.specs.Run.{state_of, Run, stopped, prefixed, ran_of, Answers}
 use Rattle.parts.specs.Parts.{has_ended, Bytes, part_run, bytes_of, Reached, parts_from, run_by_acts}
@@ -47,16 +48,16 @@ one-part t log room =
     (has_ended (part_run room log (state_of fresh_world t 0)).stop) _ _ (λ _. refl) (λ _. alone (part_run room log (state_of fresh_world t 0)))
 
 -- a run over bytes, from a world of the code's sizes
-module _ (room len : ℕ) (log out out' : List ℕ) (w : World) (t : Tally) (number : ℕ) (r : Ran) (shaped : Shaped w) (bytes : Bytes log) where
+module _ (room len : ℕ) (log out out' : List ℕ) (s : State) (r : Ran) (shaped : Shaped s.world) (bytes : Bytes log) where
   -- is the row of acts
   pub by-acts :
-      Answers (part_run room log (state_of w t number)) len r out out' → Answers (run_by_acts room log (state_of w t number)) len r out out'
-  by-acts a = subst (λ (x : Run). Answers x len r out out') (run-is-acts room log (state_of w t number) shaped bytes) a
+      Answers (part_run room log s) len r out out' → Answers (run_by_acts room log s) len r out out'
+  by-acts a = subst (λ (x : Run). Answers x len r out out') (run-is-acts room log s shaped bytes) a
 
   -- and leaves a world sound or not, as it was
-  pub run-flag : Answers (part_run room log (state_of w t number)) len r out out' → sound_world r.world ≡ sound_world w
+  pub run-flag : Answers (part_run room log s) len r out out' → sound_world r.state.world ≡ sound_world s.world
   unfolding ran_of
-  run-flag a = ap (λ (x : Ran). sound_world x.world) a.ran ∙ (run-keeps room log (state_of w t number) shaped bytes).flag
+  run-flag a = ap (λ (x : Ran). sound_world x.state.world) a.ran ∙ (run-keeps room log s shaped bytes).flag
 
 -- a run of a log from a fresh world
 module _ (room len : ℕ) (log out out' : List ℕ) (t : Tally) (r : Ran) where
@@ -73,6 +74,6 @@ module _ (room len : ℕ) (log out out' : List ℕ) (t : Tally) (r : Ran) where
   demanded bytes = every-replay t (one_part log room) (subst Bytes (sym (append-nil log)) bytes)
 
   pub world-reached :
-      Answers (replayed t (one_part log room)).run len r out out' → Bytes log → r.world ≡ reached (acts_run t (one_part log room))
+      Answers (replayed t (one_part log room)).run len r out out' → Bytes log → r.state.world ≡ reached (acts_run t (one_part log room))
   unfolding ran_of
-  world-reached a bytes = ap (λ (x : Ran). x.world) a.ran ∙ (demanded bytes).world_is
+  world-reached a bytes = ap (λ (x : Ran). x.state.world) a.ran ∙ (demanded bytes).world_is

@@ -12,7 +12,7 @@ ghost use Rattle.solo.specs.Solo.{answer_of};
 ghost use Rattle.kept.specs.Shape.{Shaped};
 ghost use Rattle.keeps.specs.Solo.{solo_by_acts};
 ghost use Rattle.exact.specs.Exact.{ExactlyUnsound};
-ghost use Rattle.replay_log.specs.Run.{state_of, Answers};
+ghost use Rattle.replay_log.specs.Run.{Answers};
 ghost use Rattle.parts.specs.Parts.{part_run, run_by_acts};
 ghost use Rattle.parts.specs.Acts.{Refuses};
 ghost use Rattle.claims.specs.Claims.{reached, replayed, acts_run, ReplayDemand};
@@ -20,6 +20,7 @@ ghost use Rattle.promises.specs.Promises.{one_part};
 
 use acts::Fields;
 use calls::WORDS;
+use replay_log::State;
 use step::Acted;
 use tally::Tally;
 use world::World;
@@ -69,24 +70,28 @@ pub fn solo(w: World, t: u8, budget: u16) -> solo::Ran
 
 // A part of a log: answer and lines are the definition's, and so those of the row of acts; the world after it
 // is sound exactly if it was before; one that was not refuses every record used with 19.
-pub fn run(w: World, t: Tally, number: u32, log: &[u8], out: &mut [u8]) -> replay_log::Ran
-    ensures answer { Answers (part_run (length out.old) log.now (state_of w t number)) (length log.now) result out.old out.new }
-    ensures by_acts { Answers (run_by_acts (length out.old) log.now (state_of w t number)) (length log.now) result out.old out.new }
-    ensures sound_stays { sound_world result.world ≡ sound_world w }
-    ensures unsound_refused { sound_world w ≡ false → Refuses (state_of w t number) (part_run (length out.old) log.now (state_of w t number)) }
+pub fn run(state: State, log: &[u8], out: &mut [u8]) -> replay_log::Ran
+    ensures answer { Answers (part_run (length out.old) log.now state) (length log.now) result out.old out.new }
+    ensures by_acts { Answers (run_by_acts (length out.old) log.now state) (length log.now) result out.old out.new }
+    ensures sound_stays { sound_world result.state.world ≡ sound_world state.world }
+    ensures unsound_refused { sound_world state.world ≡ false → Refuses state (part_run (length out.old) log.now state) }
 {
-    shaped(w);
-    replay_log::run(w, t, number, log, out)
+    shaped(state.world);
+    replay_log::run(state, log, out)
 }
 
 // A log from a fresh world: the world reached is that of the acts of the records used, it is sound, and demand
 // 3 holds of these acts, with no premise on their number.
 pub fn replay(t: Tally, log: &[u8], out: &mut [u8]) -> replay_log::Ran
     ensures answer { Answers (replayed t (one_part log.now (length out.old))).run (length log.now) result out.old out.new }
-    ensures world_reached { result.world ≡ reached (acts_run t (one_part log.now (length out.old))) }
-    ensures sound { sound_world result.world ≡ true }
+    ensures world_reached { result.state.world ≡ reached (acts_run t (one_part log.now (length out.old))) }
+    ensures sound { sound_world result.state.world ≡ true }
     ensures demand { ReplayDemand t (one_part log.now (length out.old)) }
 {
-    let w = world::fresh();
-    run(w, t, 0, log, out)
+    let state = State {
+        world: world::fresh(),
+        tally: t,
+        number: 0,
+    };
+    run(state, log, out)
 }

@@ -4,11 +4,10 @@
 
 ghost use Rattle.std.specs.Prelude.{◌≤◌, IfOk};
 
-use replay_log::Stop;
+use replay_log::{State, Stop};
 use std::fmt;
 use std::io::{Read, Write};
 use tally::Tally;
-use world::World;
 
 // The bytes of a buffer: one for the records that are read, one for their lines.
 const BUFFER: usize = 65536;
@@ -49,9 +48,7 @@ fn put<W: Write>(output: &mut W, lines: &[u8]) -> Result<(), Failure> {
 // Where a replay stands between two reads.
 #[derive(Drop)]
 struct Session {
-    world: World,
-    tally: Tally,
-    number: u32,
+    state: State,
     // the records that are read; so many bytes at its start are of one that the input's next part goes on with
     buf: [u8; BUFFER],
     have: usize,
@@ -65,9 +62,11 @@ impl Session {
         ensures { result.have ≤ 24000 }
     {
         Session {
-            world: world::fresh(),
-            tally: Tally::nothing(),
-            number: 0,
+            state: State {
+                world: world::fresh(),
+                tally: Tally::nothing(),
+                number: 0,
+            },
             buf: [0; BUFFER],
             have: 0,
             out: [0; BUFFER],
@@ -87,18 +86,9 @@ impl Session {
             return Ok(Next::Finish);
         }
         let end = self.have + n;
-        let ran = replay_log::feed(
-            self.world,
-            self.tally,
-            self.number,
-            &mut self.buf,
-            end,
-            &mut self.out,
-        );
+        let ran = replay_log::feed(self.state, &mut self.buf, end, &mut self.out);
         put(output, &self.out[..ran.count])?;
-        self.world = ran.world;
-        self.tally = ran.tally;
-        self.number = ran.number;
+        self.state = ran.state;
         match ran.stop {
             Stop::Short => {
                 self.have = end - ran.used;
@@ -116,7 +106,8 @@ impl Session {
 
     // The last lines: a refusal for bytes that are left, and the tally.
     fn finish<W: Write>(&mut self, output: &mut W) -> Result<(), Failure> {
-        let finished = replay_log::put_finish(self.tally, self.number, self.have, &mut self.out);
+        let State { tally, number, .. } = self.state;
+        let finished = replay_log::put_finish(tally, number, self.have, &mut self.out);
         let end = lines::put_tally(&mut self.out, finished.count, finished.tally);
         let count = replay_log::within(end, &self.out);
         put(output, &self.out[..count])

@@ -1,17 +1,16 @@
 -- The loop of `run`: what is left of the run, behind what was written, is the whole run. Assumes nothing.
-use Prim.Native.Nat.{ℕ, zero, suc, ◌+◌, ◌-◌, ◌≤◌, ◌<◌, min}
+use Prim.Native.Nat.{ℕ, ◌+◌, ◌-◌, ◌≤◌, ◌<◌, min}
 use native.Mathlib.Nat.{add-zero, sub-zero, zero-add}
 use native.Mathlib.Omega.{arith}
 use mathlib.Core.Path.{◌≡◌, refl, sym, ap, subst, ◌∙◌}
 use mathlib.Core.Bool.{Bool, true, false}
 use mathlib.Core.List.{List, [], ◌++◌, append_assoc}
-use lib.Dec.{eqb, leb, ltb}
+use lib.Dec.{eqb, leb}
 use lib.ListN.{length, take, drop, length-append, length-drop, length-take}
 use lib.Seq.{drop-drop, length-take-le, take_all}
-use borrow.Author.Tests.{leb-true, leb-false, le-leb, lt-leb, lt-ltb, ltb-true, eqb-true, ne_eqb}
-use Rattle.std.specs.Prelude.{Some, None, Result, Ok, Err}
+use borrow.Author.Tests.{leb-true, leb-false, le-leb, lt-leb, eqb-true}
+use Rattle.std.specs.Prelude.{Option, Some, None, Result, Ok, Err}
 use Rattle.std.specs.List.{copy_within}
-use Rattle.std.proofs.lemmas.Option.{none-some, cond_some}
 use Rattle.calls.specs.declared.Event.{Event}
 use Rattle.calls.specs.declared.Event.TheVariants as E
 use Rattle.tally.specs.declared.Tally.{Tally}
@@ -27,7 +26,11 @@ use Rattle.replay_log.specs.declared.Stop.{Stop}
 use Rattle.replay_log.specs.declared.Stop.TheVariants as S
 use Rattle.replay_log.specs.declared.Ran.{Ran}
 use Rattle.replay_log.specs.declared.Finished.{Finished}
-use Rattle.replay_log.specs.Run.{LAST, State, Run, Answers, answer_of, if_any, stopped, prefixed, fields_of, noted, ending_of, last_line, last_state, turn_of, record_line, record_state, run_of, state_of, ran_of, finish_of, finished_tally, finished_line, finished_of, moved_of, carried_of}
+use Rattle.replay_log.specs.declared.Refusal.{Refusal}
+use Rattle.replay_log.specs.declared.Refusal.TheVariants as R
+use Rattle.replay_log.specs.Numbers.{number_of, number_told}
+use Rattle.replay_log.specs.declared.State.{State}
+use Rattle.replay_log.specs.Run.{LAST, Run, Answers, answer_of, stopped, prefixed, fields_of, noted, ending_of, last_line, last_state, turn_of, record_line, record_state, run_of, ran_of, finish_of, finished_tally, finished_line, finished_of, moved_of, carried_of}
 use Rattle.replay_log.specs.InPlace.{fits, told, Told, NoRoom, Tells, acted_on, Acted_on, Acts, answer_in, next_event, numbered_on, Went, Ends, Turns}
 use Rattle.replay_log.proofs.Unroll.{prefixed-none, prefixed-twice, runs-out, unroll-record, turn-goes, turn-full, turn-ends, turn-ends-full}
 
@@ -55,35 +58,35 @@ module _ (out line : List ℕ) (at : ℕ) {next : ℕ} (some : 1 ≤ length line
       by false q = absurd (other (e ∙ end-not out at line q))
 
 -- an event's line, laid or not
-module _ (e : Event) (grant : Bool) (r : Ran) (out out' : List ℕ) {next : ℕ} (en : next ≡ end_of (length out) r.count (line_of r.number e)) (eo : out' ≡ lay_of out r.count (line_of r.number e)) where
+module _ (e : Event) (grant : Bool) (r : Ran) (out out' : List ℕ) {next : ℕ} (en : next ≡ end_of (length out) r.count (line_of r.state.number e)) (eo : out' ≡ lay_of out r.count (line_of r.state.number e)) where
   pub not-told : next ≡ r.count → NoRoom e r r out out'
   not-told same =
-      let q = no_room out (line_of r.number e) r.count (line-some r.number e) en same in
-      record { room = q; same = refl; keeps = eo ∙ lay-not out r.count (line_of r.number e) q }
+      let q = no_room out (line_of r.state.number e) r.count (line-some r.state.number e) en same in
+      record { room = q; same = refl; keeps = eo ∙ lay-not out r.count (line_of r.state.number e) q }
 
-  pub is-told : (next ≡ r.count → ⊥) → (tally : Tally) → tally ≡ add_event r.tally e grant →
-      Told e grant r (record { world = r.world; tally = tally; number = r.number; used = r.used; count = next; stop = r.stop }) out out'
+  pub is-told : (next ≡ r.count → ⊥) → (tally : Tally) → tally ≡ add_event r.state.tally e grant →
+      Told e grant r (record { state = record { world = r.state.world; tally = tally; number = r.state.number }; used = r.used; count = next; stop = r.stop }) out out'
   unfolding told
   is-told other tally et =
-      let q = has_room out (line_of r.number e) r.count (line-some r.number e) en other in
+      let q = has_room out (line_of r.state.number e) r.count (line-some r.state.number e) en other in
       record {
         room = q;
-        after = rw (et, en, end_fits out r.count (line_of r.number e) q) refl;
-        lays = eo ∙ lay-fits out r.count (line_of r.number e) q;
+        after = rw (et, en, end_fits out r.count (line_of r.state.number e) q) refl;
+        lays = eo ∙ lay-fits out r.count (line_of r.state.number e) q;
       }
 
 -- no refusal, or one
-pub if-none : (n : ℕ) → None ≡ if_any n → n ≡ 0
-unfolding if_any
-if-none zero e = refl
-if-none (suc n) e = absurd (none-some (suc n) (e ∙ rw (lt-ltb 0 (suc n) (omega arith)) refl))
+pub if-none : (n : ℕ) (o : Option Refusal) → o ≡ None → number_told o ≡ n → n ≡ 0
+if-none n o e told = sym told ∙ ap number_told e
 
-pub if-some : (n number : ℕ) → Some number ≡ if_any n → (eqb number 0 ≡ false) × (number ≡ n)
-unfolding if_any
-if-some n number e =
-    let h : (ltb 0 n ≡ true) × (n ≡ number) = cond_some (ltb 0 n) n number (sym e) in
-    let some : 0 < n = ltb-true 0 n h.0 in
-    let z : number ≡ 0 → ⊥ = λ i. omega (arith, h.1, i) in (ne_eqb number 0 z, sym h.1)
+some_number : (refusal : Refusal) → eqb (number_of refusal) 0 ≡ false
+some_number R.BadMark = refl
+some_number R.ShortRecord = refl
+some_number R.NoNumber = refl
+
+pub if-some :
+    (n number : ℕ) (o : Option Refusal) (refusal : Refusal) → o ≡ Some refusal → number ≡ number_of refusal → number_told o ≡ n → (eqb number 0 ≡ false) × (number ≡ n)
+if-some n number o refusal e is told = (ap (λ (k : ℕ). eqb k 0) is ∙ some_number refusal, is ∙ (sym (ap number_told e) ∙ told))
 
 -- a record that has a number leaves one for the next
 pub numbered : (number : ℕ) (l : List ℕ) → ending_of number l ≡ 0 → number ≡ LAST → ⊥
@@ -113,44 +116,44 @@ module _ (r r' : Ran) (out out' : List ℕ) (e : Event) {res : Result (Unit {0})
 -- an act of a record, told and stored
 pub acts_told :
     (a : Fields) (d : Acted) (r r' : Ran) (out out' : List ℕ) (e : Event) (grant : Bool) {done : Unit {0}} (w : World) → e ≡ d.event →
-    grant ≡ grants_of (thread_at r.world a.thread).at → w ≡ d.world → Tells e grant r r' out out' (Ok done) →
-    Acts a d r (record { world = w; tally = r'.tally; number = r'.number; used = r'.used; count = r'.count; stop = r'.stop }) out out' (Ok tt)
+    grant ≡ grants_of (thread_at r.state.world a.thread).at → w ≡ d.world → Tells e grant r r' out out' (Ok done) →
+    Acts a d r (record { state = record { world = w; tally = r'.state.tally; number = r'.state.number }; used = r'.used; count = r'.count; stop = r'.stop }) out out' (Ok tt)
 unfolding Tells Acts told acted_on
 acts_told a d r r' out out' e grant w ee eg ew t = record {
   room = ap (fits out r) (sym ee) ∙ t.room;
   after = rw (t.after, ew, ee, eg) refl;
-  lays = t.lays ∙ ap (λ (x : Event). laid out r.count (line_of r.number x)) ee;
+  lays = t.lays ∙ ap (λ (x : Event). laid out r.count (line_of r.state.number x)) ee;
 }
 
 -- telling an event leaves the world
-pub told_world : (e : Event) (grant : Bool) (r r' : Ran) (out out' : List ℕ) {done : Unit {0}} → Tells e grant r r' out out' (Ok done) → r'.world ≡ r.world
+pub told_world : (e : Event) (grant : Bool) (r r' : Ran) (out out' : List ℕ) {done : Unit {0}} → Tells e grant r r' out out' (Ok done) → r'.state.world ≡ r.state.world
 unfolding Tells told
-told_world e grant r r' out out' t = ap (λ (x : Ran). x.world) t.after
+told_world e grant r r' out out' t = ap (λ (x : Ran). x.state.world) t.after
 
 -- doing an act leaves the number
-pub acted_number : (a : Fields) (d : Acted) (r r' : Ran) (out out' : List ℕ) {done : Unit {0}} → Acts a d r r' out out' (Ok done) → r'.number ≡ r.number
+pub acted_number : (a : Fields) (d : Acted) (r r' : Ran) (out out' : List ℕ) {done : Unit {0}} → Acts a d r r' out out' (Ok done) → r'.state.number ≡ r.state.number
 unfolding Acts acted_on
-acted_number a d r r' out out' t = ap (λ (x : Ran). x.number) t.after
+acted_number a d r r' out out' t = ap (λ (x : Ran). x.state.number) t.after
 
 -- the refusal that ends the run is what is told next
-pub refusal-next : (sound : Bool) (l : List ℕ) (r : Ran) (number : ℕ) → Some number ≡ if_any (ending_of r.number l) → E.Refused number ≡ next_event sound l r
+pub refusal-next : (sound : Bool) (l : List ℕ) (r : Ran) (number : ℕ) → (eqb number 0 ≡ false) × (number ≡ ending_of r.state.number l) → E.Refused number ≡ next_event sound l r
 unfolding next_event
-refusal-next sound l r number e = let h = if-some (ending_of r.number l) number e in rw (← h.1, h.0) refl
+refusal-next sound l r number h = rw (← h.1, h.0) refl
 
 -- a turn over a record that has an act
-module _ (sound : Bool) (l : List ℕ) (r r' : Ran) (out out' : List ℕ) (a : Fields) (z : ending_of r.number l ≡ 0) (ea : a ≡ fields_of l) where
+module _ (sound : Bool) (l : List ℕ) (r r' : Ran) (out out' : List ℕ) (a : Fields) (z : ending_of r.state.number l ≡ 0) (ea : a ≡ fields_of l) where
   pub turn-acts :
-      {done : Unit {0}} → Acts a (answer_of sound r.world a) r r' out out' (Ok done) →
-      Turns sound l r (record { world = r'.world; tally = r'.tally; number = r'.number + 1; used = r'.used; count = r'.count; stop = r'.stop }) out out' (Ok tt)
+      {done : Unit {0}} → Acts a (answer_of sound r.state.world a) r r' out out' (Ok done) →
+      Turns sound l r (record { state = record { world = r'.state.world; tally = r'.state.tally; number = r'.state.number + 1 }; used = r'.used; count = r'.count; stop = r'.stop }) out out' (Ok tt)
   unfolding Acts Turns numbered_on
-  turn-acts t = by (subst (λ (x : Fields). Acted_on x (answer_of sound r.world x) r r' out out') ea t)
+  turn-acts t = by (subst (λ (x : Fields). Acted_on x (answer_of sound r.state.world x) r r' out out') ea t)
     where
       by : Acted_on (fields_of l) (answer_in sound l r) r r' out out' → Went sound l r (numbered_on r') out out'
       by t = record { goes = z; room = t.room; after = ap numbered_on t.after; lays = t.lays }
 
-  pub turn-has-no-room : {res : Result (Unit {0}) Stop} (x : Stop) → res ≡ Err x → Acts a (answer_of sound r.world a) r r' out out' (Err x) → Turns sound l r r' out out' res
+  pub turn-has-no-room : {res : Result (Unit {0}) Stop} (x : Stop) → res ≡ Err x → Acts a (answer_of sound r.state.world a) r r' out out' (Err x) → Turns sound l r r' out out' res
   unfolding Acts Turns next_event
-  turn-has-no-room x is t = rw is (by x (subst (λ (b : Fields). Acts b (answer_of sound r.world b) r r' out out' (Err x)) ea t))
+  turn-has-no-room x is t = rw is (by x (subst (λ (b : Fields). Acts b (answer_of sound r.state.world b) r r' out out' (Err x)) ea t))
     where
       by : (y : Stop) → Acts (fields_of l) (answer_in sound l r) r r' out out' (Err y) → Turns sound l r r' out out' (Err y)
       by S.Room t = rw z t
@@ -172,23 +175,23 @@ pub record Inv (sound : Bool) (log out₀ : List ℕ) (s₀ : State) (out : List
   pub room : r.count ≤ length out
   pub same : length out ≡ length out₀
   pub kept : drop r.count out ≡ drop r.count out₀
-  pub run : prefixed (take r.count out) r.used (run_of sound (length out - r.count) rest (state_of r.world r.tally r.number)) ≡ run_of sound (length out₀) log s₀
+  pub run : prefixed (take r.count out) r.used (run_of sound (length out - r.count) rest r.state) ≡ run_of sound (length out₀) log s₀
 
 pub inv-start :
-    (sound : Bool) (log out₀ : List ℕ) (w : World) (t : Tally) (number : ℕ) →
-    Inv sound log out₀ (state_of w t number) out₀ (record { world = w; tally = t; number = number; used = 0; count = 0; stop = S.Short }) log
-inv-start sound log out₀ w t number = record {
+    (sound : Bool) (log out₀ : List ℕ) (s : State) →
+    Inv sound log out₀ s out₀ (record { state = s; used = 0; count = 0; stop = S.Short }) log
+inv-start sound log out₀ s = record {
   stop = refl;
   within = zero-add (length log);
   room = omega arith;
   same = refl;
   kept = refl;
-  run = ap (λ (room : ℕ). prefixed [] 0 (run_of sound room log (state_of w t number))) (sub-zero (length out₀)) ∙ prefixed-none (run_of sound (length out₀) log (state_of w t number));
+  run = ap (λ (room : ℕ). prefixed [] 0 (run_of sound room log s)) (sub-zero (length out₀)) ∙ prefixed-none (run_of sound (length out₀) log s);
 }
 
 module _ (sound : Bool) (log out₀ : List ℕ) (s₀ : State) (out : List ℕ) (r : Ran) (rest : List ℕ) (inv : Inv sound log out₀ s₀ out r rest) where
   abbrev s : State
-  s = state_of r.world r.tally r.number
+  s = r.state
 
   abbrev room : ℕ
   room = length out - r.count
@@ -217,7 +220,7 @@ module _ (sound : Bool) (log out₀ : List ℕ) (s₀ : State) (out : List ℕ) 
     same_length = ap length wrote ∙ laid-length out r.count last.lines enough
 
     ends : Answers (run_of sound (length out₀) log s₀) (length log)
-        (record { world = last.state.world; tally = last.state.tally; number = last.state.number; used = r.used; count = r.count + length last.lines; stop = last.stop }) out₀ out'
+        (record { state = last.state; used = r.used; count = r.count + length last.lines; stop = last.stop }) out₀ out'
     unfolding ran_of
     ends =
         rw whole (record {
@@ -229,15 +232,15 @@ module _ (sound : Bool) (log out₀ : List ℕ) (s₀ : State) (out : List ℕ) 
 
   -- nothing more was run
   stays : (stop : Stop) (out' : List ℕ) → out' ≡ out → run_of sound room rest s ≡ stopped stop s →
-      Answers (run_of sound (length out₀) log s₀) (length log) (record { world = r.world; tally = r.tally; number = r.number; used = r.used; count = r.count; stop = stop }) out₀ out'
+      Answers (run_of sound (length out₀) log s₀) (length log) (record { state = r.state; used = r.used; count = r.count; stop = stop }) out₀ out'
   stays stop out' eo e =
-      subst (λ (k : ℕ). Answers (run_of sound (length out₀) log s₀) (length log) (record { world = r.world; tally = r.tally; number = r.number; used = r.used; count = k; stop = stop }) out₀ out') (add-zero r.count)
+      subst (λ (k : ℕ). Answers (run_of sound (length out₀) log s₀) (length log) (record { state = r.state; used = r.used; count = k; stop = stop }) out₀ out') (add-zero r.count)
       (ends (stopped stop s) out' e (omega (arith, inv.room)) (eo ∙ sym (laid_none out r.count)) refl)
 
   -- fewer bytes are left than a record has
   pub ends-short : length rest < 10 → Answers (run_of sound (length out₀) log s₀) (length log) r out₀ out
   ends-short few =
-      subst (λ (x : Stop). Answers (run_of sound (length out₀) log s₀) (length log) (record { world = r.world; tally = r.tally; number = r.number; used = r.used; count = r.count; stop = x }) out₀ out) (sym inv.stop)
+      subst (λ (x : Stop). Answers (run_of sound (length out₀) log s₀) (length log) (record { state = r.state; used = r.used; count = r.count; stop = x }) out₀ out) (sym inv.stop)
       (stays S.Short out refl (runs-out sound room rest s few))
 
   -- a record, and what is behind it
@@ -250,33 +253,33 @@ module _ (sound : Bool) (log out₀ : List ℕ) (s₀ : State) (out : List ℕ) 
 
     -- the next line has no room
     ends-full : (r' : Ran) (out' : List ℕ) → NoRoom (next_event sound x r) r r' out out' →
-        Answers (run_of sound (length out₀) log s₀) (length log) (record { world = r'.world; tally = r'.tally; number = r'.number; used = r'.used; count = r'.count; stop = S.Room }) out₀ out'
+        Answers (run_of sound (length out₀) log s₀) (length log) (record { state = r'.state; used = r'.used; count = r'.count; stop = S.Room }) out₀ out'
     unfolding next_event
     ends-full r' out' n =
-        subst (λ (v : Ran). Answers (run_of sound (length out₀) log s₀) (length log) (record { world = v.world; tally = v.tally; number = v.number; used = v.used; count = v.count; stop = S.Room }) out₀ out') (sym n.same)
-        (stays S.Room out' n.keeps (unrolled ∙ by (eqb (ending_of r.number x) 0) refl))
+        subst (λ (v : Ran). Answers (run_of sound (length out₀) log s₀) (length log) (record { state = v.state; used = v.used; count = v.count; stop = S.Room }) out₀ out') (sym n.same)
+        (stays S.Room out' n.keeps (unrolled ∙ by (eqb (ending_of r.state.number x) 0) refl))
       where
-        by : (b : Bool) → eqb (ending_of r.number x) 0 ≡ b → turn_of room x s line (run_of sound (room - length line) rest' (record_state sound x s)) ≡ stopped S.Room s
+        by : (b : Bool) → eqb (ending_of r.state.number x) 0 ≡ b → turn_of room x s line (run_of sound (room - length line) rest' (record_state sound x s)) ≡ stopped S.Room s
         by true q =
             turn-full room x s line _ (eqb-true _ 0 q)
             (shifted r.count (length line) (length out) inv.room ∙ (ap (λ (e : Event). fits out r e) (sym (rw q refl)) ∙ n.room))
         by false q =
-            turn-ends-full room x s line _ {number = ending_of r.number x} refl q
-            (shifted r.count (length (last_line (ending_of r.number x) s)) (length out) inv.room ∙ (ap (λ (e : Event). fits out r e) (sym (rw q refl)) ∙ n.room))
+            turn-ends-full room x s line _ {number = ending_of r.state.number x} refl q
+            (shifted r.count (length (last_line (ending_of r.state.number x) s)) (length out) inv.room ∙ (ap (λ (e : Event). fits out r e) (sym (rw q refl)) ∙ n.room))
 
     -- a refusal ends the run
     ends_by : (number : ℕ) (r' : Ran) (out' : List ℕ) → Ends number x r r' out out' →
-        Answers (run_of sound (length out₀) log s₀) (length log) (record { world = r'.world; tally = r'.tally; number = r'.number; used = r'.used; count = r'.count; stop = S.Ended number }) out₀ out'
+        Answers (run_of sound (length out₀) log s₀) (length log) (record { state = r'.state; used = r'.used; count = r'.count; stop = S.Ended number }) out₀ out'
     unfolding told
     ends_by number r' out' n =
         let t = n.tells in
-        subst (λ (v : Ran). Answers (run_of sound (length out₀) log s₀) (length log) (record { world = v.world; tally = v.tally; number = v.number; used = v.used; count = v.count; stop = S.Ended number }) out₀ out') (sym t.after)
+        subst (λ (v : Ran). Answers (run_of sound (length out₀) log s₀) (length log) (record { state = v.state; used = v.used; count = v.count; stop = S.Ended number }) out₀ out') (sym t.after)
         (ends (record { lines = last_line number s; state = last_state number s; used = 0; stop = S.Ended number }) out'
         (unrolled ∙ turn-ends room x s line _ n.is n.some (shifted r.count (length (last_line number s)) (length out) inv.room ∙ t.room)) (leb-true _ _ t.room) t.lays refl)
 
     -- either of them
     pub ends-so : (r' : Ran) (out' : List ℕ) (x' : Stop) → Turns sound x r r' out out' (Err x') →
-        Answers (run_of sound (length out₀) log s₀) (length log) (record { world = r'.world; tally = r'.tally; number = r'.number; used = r'.used; count = r'.count; stop = x' }) out₀ out'
+        Answers (run_of sound (length out₀) log s₀) (length log) (record { state = r'.state; used = r'.used; count = r'.count; stop = x' }) out₀ out'
     unfolding Turns
     ends-so r' out' S.Short t = absurd t
     ends-so r' out' S.Room t = ends-full r' out' t
@@ -284,10 +287,10 @@ module _ (sound : Bool) (log out₀ : List ℕ) (s₀ : State) (out : List ℕ) 
 
     -- the run goes on behind the record
     pub goes-on : (r' : Ran) (out' : List ℕ) {done : Unit {0}} → Turns sound x r r' out out' (Ok done) →
-        Inv sound log out₀ s₀ out' (record { world = r'.world; tally = r'.tally; number = r'.number; used = r'.used + 10; count = r'.count; stop = r'.stop }) rest'
+        Inv sound log out₀ s₀ out' (record { state = r'.state; used = r'.used + 10; count = r'.count; stop = r'.stop }) rest'
     unfolding numbered_on acted_on noted Turns
     goes-on r' out' n =
-        subst (λ (v : Ran). Inv sound log out₀ s₀ out' (record { world = v.world; tally = v.tally; number = v.number; used = v.used + 10; count = v.count; stop = v.stop }) rest') (sym n.after)
+        subst (λ (v : Ran). Inv sound log out₀ s₀ out' (record { state = v.state; used = v.used + 10; count = v.count; stop = v.stop }) rest') (sym n.after)
         (record {
           stop = inv.stop;
           within = let a = length-append x rest' in omega (arith, inv.within, ap length parted);
@@ -341,7 +344,7 @@ from-part sound l a s r out out' h =
 pub past_end :
     (sound : Bool) (l : List ℕ) (a : ℕ) (s : State) (out : List ℕ) → length l < a →
     Answers (run_of sound (length out) (drop a l) s) (length l - a)
-    (record { world = s.world; tally = s.tally; number = s.number; used = 0; count = 0; stop = S.Short }) out out
+    (record { state = s; used = 0; count = 0; stop = S.Short }) out out
 unfolding ran_of
 past_end sound l a s out h =
     let e : run_of sound (length out) (drop a l) s ≡ stopped S.Short s = runs-out sound (length out) (drop a l) s (omega (arith, length-drop a l)) in

@@ -8,7 +8,8 @@ use mathlib.Core.List.{List, [], ◌∷◌, ◌++◌, append_assoc}
 use lib.Dec.{eqb, leb}
 use lib.ListN.{length, drop}
 use Rattle.replay_log.specs.declared.Stop.TheVariants as S
-use Rattle.replay_log.specs.Run.{State, Run, stopped, prefixed, mark_of, noted, ending_of, ended_by, last_line, last_state, turn_of, record_line, record_state, run_of}
+use Rattle.replay_log.specs.declared.State.{State}
+use Rattle.replay_log.specs.Run.{Run, stopped, prefixed, mark_of, noted, ending_of, ended_by, last_line, last_state, turn_of, record_line, record_state, run_of}
 
 pub prefixed-none : (r : Run) → prefixed [] 0 r ≡ r
 prefixed-none r = simp zero-add

@@ -50,17 +50,17 @@ pub record Does (sound : Bool) (w : World) (a : Fields) (act : InPlace) : Type 0
 
 -- whether an event's line has room behind those of a run
 abbrev pub fits : List ℕ → Ran → Event → Bool
-fits out r e = leb (r.count + length (line_of r.number e)) (length out)
+fits out r e = leb (r.count + length (line_of r.state.number e)) (length out)
 
 -- a run with an event told
 unfoldable pub told : Ran → Event → Bool → Ran
-told r e grant = record { world = r.world; tally = add_event r.tally e grant; number = r.number; used = r.used; count = r.count + length (line_of r.number e); stop = r.stop }
+told r e grant = record { state = record { world = r.state.world; tally = add_event r.state.tally e grant; number = r.state.number }; used = r.used; count = r.count + length (line_of r.state.number e); stop = r.stop }
 
 -- an event's line laid, and the event told
 pub record Told (e : Event) (grant : Bool) (r r' : Ran) (out out' : List ℕ) : Type 0 where
   pub room : fits out r e ≡ true
   pub after : r' ≡ told r e grant
-  pub lays : out' ≡ laid out r.count (line_of r.number e)
+  pub lays : out' ≡ laid out r.count (line_of r.state.number e)
 
 -- no room for it: nothing changes
 pub record NoRoom (e : Event) (r r' : Ran) (out out' : List ℕ) : Type 0 where
@@ -78,11 +78,9 @@ Tells e grant r r' out out' (Err (S.Ended number)) = ⊥
 -- a run with an act's answer told, and its world
 unfoldable pub acted_on : Ran → Fields → Acted → Ran
 acted_on r a d = record {
-  world = d.world;
-  tally = add_event r.tally d.event (grants_of (thread_at r.world a.thread).at);
-  number = r.number;
+  state = record { world = d.world; tally = add_event r.state.tally d.event (grants_of (thread_at r.state.world a.thread).at); number = r.state.number };
   used = r.used;
-  count = r.count + length (line_of r.number d.event);
+  count = r.count + length (line_of r.state.number d.event);
   stop = r.stop;
 }
 
@@ -90,7 +88,7 @@ acted_on r a d = record {
 pub record Acted_on (a : Fields) (d : Acted) (r r' : Ran) (out out' : List ℕ) : Type 0 where
   pub room : fits out r d.event ≡ true
   pub after : r' ≡ acted_on r a d
-  pub lays : out' ≡ laid out r.count (line_of r.number d.event)
+  pub lays : out' ≡ laid out r.count (line_of r.state.number d.event)
 
 -- an attempt to do a record's act, whose answer is d
 unfoldable pub Acts : Fields → Acted → Ran → Ran → List ℕ → List ℕ → Result Unit Stop → Type 0
@@ -101,25 +99,25 @@ Acts a d r r' out out' (Err (S.Ended number)) = ⊥
 
 -- the answer to the record that the bytes begin with, in a run's world
 abbrev pub answer_in : Bool → List ℕ → Ran → Acted
-answer_in sound l r = answer_of sound r.world (fields_of l)
+answer_in sound l r = answer_of sound r.state.world (fields_of l)
 
 -- what is told before the run goes on or ends: a refusal that ends it, or the act's event
 unfoldable pub next_event : Bool → List ℕ → Ran → Event
-next_event sound l r = cond (eqb (ending_of r.number l) 0) (answer_in sound l r).event (E.Refused (ending_of r.number l))
+next_event sound l r = cond (eqb (ending_of r.state.number l) 0) (answer_in sound l r).event (E.Refused (ending_of r.state.number l))
 
 -- one record was run: its act is done, and the next has the next number
 unfoldable pub numbered_on : Ran → Ran
-numbered_on r = record { world = r.world; tally = r.tally; number = r.number + 1; used = r.used; count = r.count; stop = r.stop }
+numbered_on r = record { state = record { world = r.state.world; tally = r.state.tally; number = r.state.number + 1 }; used = r.used; count = r.count; stop = r.stop }
 
 pub record Went (sound : Bool) (l : List ℕ) (r r' : Ran) (out out' : List ℕ) : Type 0 where
-  pub goes : ending_of r.number l ≡ 0
+  pub goes : ending_of r.state.number l ≡ 0
   pub room : fits out r (answer_in sound l r).event ≡ true
   pub after : r' ≡ numbered_on (acted_on r (fields_of l) (answer_in sound l r))
-  pub lays : out' ≡ laid out r.count (line_of r.number (answer_in sound l r).event)
+  pub lays : out' ≡ laid out r.count (line_of r.state.number (answer_in sound l r).event)
 
 -- a refusal was told that ends the run
 pub record Ends (number : ℕ) (l : List ℕ) (r r' : Ran) (out out' : List ℕ) : Type 0 where
-  pub is : number ≡ ending_of r.number l
+  pub is : number ≡ ending_of r.state.number l
   pub some : eqb number 0 ≡ false
   pub tells : Told (E.Refused number) false r r' out out'
 

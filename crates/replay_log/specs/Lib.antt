@@ -1,2 +1,3 @@
 pub mod InPlace
+pub mod Numbers
 pub mod Run

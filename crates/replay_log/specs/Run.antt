@@ -1,5 +1,5 @@
 -- The run of a log of records, ten bytes each: the lines, the world and the tally. Assumes nothing.
-use Rattle.std.specs.Prelude.{Option, Some, None, ℕ, ◌+◌, ◌-◌, ◌*◌, ◌≤◌, ◌≡◌, Bool, false, cond, ◌&&◌, List, [], ◌∷◌, ◌++◌, eqb, ltb, leb, length, get_or, take, drop}
+use Rattle.std.specs.Prelude.{ℕ, ◌+◌, ◌-◌, ◌*◌, ◌≤◌, ◌≡◌, Bool, false, cond, ◌&&◌, List, [], ◌∷◌, ◌++◌, eqb, ltb, leb, length, get_or, take, drop}
 use Rattle.calls.specs.declared.Event.TheVariants as E
 use Rattle.tally.specs.declared.Tally.{Tally}
 use Rattle.tally.specs.Tally.{add_event, grants_of}
@@ -12,6 +12,7 @@ use Rattle.acts.specs.declared.Fields.{Fields}
 use Rattle.acts.specs.Acts.{acted_of}
 use Rattle.replay_log.specs.declared.Stop.{Stop}
 use Rattle.replay_log.specs.declared.Stop.TheVariants as S
+use Rattle.replay_log.specs.declared.State.{State}
 use Rattle.replay_log.specs.declared.Ran.{Ran}
 use Rattle.replay_log.specs.declared.Finished.{Finished}
 
@@ -29,19 +30,9 @@ fields_of l = record {
   value = get_or l 6 0 + get_or l 7 0 * 256 + get_or l 8 0 * 65536 + get_or l 9 0 * 16777216;
 }
 
--- a refusal's number, if there is one: 0 is none
-unfoldable pub if_any : ℕ → Option ℕ
-if_any n = cond (ltb 0 n) (Some n) None
-
 -- whether they begin with the mark 0xB1 0x6B
 unfoldable pub mark_of : List ℕ → Bool
 mark_of l = eqb (get_or l 0 0) 177 && eqb (get_or l 1 0) 107
-
--- the world, the tally and the number of the next record, as a run goes along
-pub record State : Type 0 where
-  pub world : World
-  pub tally : Tally
-  pub number : ℕ
 
 -- an act's answer: soundness is tested once, before the first record
 unfoldable pub answer_of : Bool → World → Fields → Acted
@@ -115,19 +106,12 @@ run_of sound room (a ∷ b ∷ c ∷ d ∷ e ∷ f ∷ g ∷ h ∷ i ∷ j ∷ r
     let l : List ℕ = a ∷ b ∷ c ∷ d ∷ e ∷ f ∷ g ∷ h ∷ i ∷ j ∷ rest in
     turn_of room l s (record_line sound l s) (run_of sound (room - length (record_line sound l s)) rest (record_state sound l s))
 
--- what `run` answers
 abbrev pub state_of : World → Tally → ℕ → State
 state_of w t number = record { world = w; tally = t; number = number }
 
+-- what `run` answers
 unfoldable pub ran_of : Run → Ran
-ran_of r = record {
-  world = r.state.world;
-  tally = r.state.tally;
-  number = r.state.number;
-  used = r.used;
-  count = length r.lines;
-  stop = r.stop;
-}
+ran_of r = record { state = r.state; used = r.used; count = length r.lines; stop = r.stop }
 
 -- so many bytes are a list's first ones, and no more than it has
 abbrev pub IsPrefixLen : ℕ → List ℕ → Type 0

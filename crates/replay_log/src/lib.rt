@@ -1,6 +1,6 @@
 // The run of a log: records of ten bytes, one line for each, and a tally. A log can be run in parts, each
-// from the world, the tally and the number that the part before it reached.
-#![tactic(auto, unfolding(step::specs::Acts::begin_of, step::specs::Acts::recorded, step::specs::Step::own_plan, crate::specs::InPlace::Acts, crate::specs::InPlace::Tells, crate::specs::InPlace::Turns, crate::specs::InPlace::quick_begin, crate::specs::InPlace::quick_of, crate::specs::InPlace::stored_by, crate::specs::InPlace::told_by, crate::specs::Run::answer_of, crate::specs::Run::ending_of, crate::specs::Run::finish_of, crate::specs::Run::if_any, crate::specs::Run::mark_of))]
+// from the state that the part before it reached.
+#![tactic(auto, unfolding(step::specs::Acts::begin_of, step::specs::Acts::recorded, step::specs::Step::own_plan, crate::specs::InPlace::Acts, crate::specs::InPlace::Tells, crate::specs::InPlace::Turns, crate::specs::InPlace::quick_begin, crate::specs::InPlace::quick_of, crate::specs::InPlace::stored_by, crate::specs::InPlace::told_by, crate::specs::Run::answer_of, crate::specs::Run::ending_of, crate::specs::Run::finish_of, crate::specs::Run::mark_of))]
 
 ghost use Rattle.std.specs.Prelude.{◌≡◌, ◌-◌, ◌≤◌, ◌<◌, min, length, take, drop, IfSome};
 ghost use Rattle.queue.specs.Row.{THREADS};
@@ -8,7 +8,8 @@ ghost use Rattle.tally.specs.Tally.{grants_of};
 ghost use Rattle.sound.specs.Sound.{sound_world};
 ghost use Rattle.lines.specs.Lines.{lay_of};
 ghost use Rattle.world.specs.World.{thread_at};
-ghost use Rattle.replay_log.specs.Run.{IsPrefixLen, fields_of, mark_of, if_any, ending_of, answer_of, run_of, state_of, Answers, carried_of, finish_of, finished_line, finished_of};
+ghost use Rattle.replay_log.specs.Numbers.{number_of, number_told};
+ghost use Rattle.replay_log.specs.Run.{IsPrefixLen, fields_of, mark_of, ending_of, answer_of, run_of, Answers, carried_of, finish_of, finished_line, finished_of};
 ghost use Rattle.replay_log.specs.InPlace.{quick_of, quick_begin, told_by, stored_by, Does, Tells, Acts, Turns};
 
 use acts::{Action, Fields};
@@ -21,6 +22,24 @@ use world::World;
 // A record is so many bytes.
 pub const RECORD: usize = 10;
 
+// What a log is refused for, with the number that is told of it.
+#[derive(Clone, Copy, Debug, PartialEq, Eq)]
+pub enum Refusal {
+    BadMark = 20,
+    // fewer bytes are left than a record has
+    ShortRecord,
+    // the numbers are used up
+    NoNumber,
+}
+
+impl Refusal {
+    pub fn number(self) -> u8
+        ensures { result ≡ number_of self }
+    {
+        self as u8
+    }
+}
+
 // Why a run stopped.
 #[derive(Clone, Copy)]
 pub enum Stop {
@@ -32,13 +51,18 @@ pub enum Stop {
     Ended { number: u8 },
 }
 
-// What a run reached: the world, the tally, the number of the next record, the bytes of the log that it
-// used and of the buffer that it wrote, and why it stopped.
+// What goes along with a run: the world, the tally, and the number of the next record.
 #[derive(Clone, Copy)]
-pub struct Ran {
+pub struct State {
     pub world: World,
     pub tally: Tally,
     pub number: u32,
+}
+
+// What a run reached, the bytes of the log that it used and of the buffer that it wrote, and why it stopped.
+#[derive(Clone, Copy)]
+pub struct Ran {
+    pub state: State,
     pub used: usize,
     pub count: usize,
     pub stop: Stop,
@@ -53,13 +77,6 @@ pub struct Finished {
 
 // So many records have numbers; any byte behind them is refused.
 const LAST: u32 = 0xFFFF_FFFF;
-
-// What ends a run: a bad mark, too few bytes for a record, no number left.
-const BAD_MARK: u8 = 20;
-
-const SHORT_RECORD: u8 = 21;
-
-const NO_NUMBER: u8 = 22;
 
 // The fields of the record that the bytes begin with.
 fn fields(l: &[u8]) -> Fields
@@ -84,17 +101,17 @@ fn is_marked(l: &[u8]) -> bool
 }
 
 // The refusal that ends a run before a record: the numbers are used up, or its mark is bad.
-fn ending(number: u32, l: &[u8]) -> Option<u8>
+fn ending(number: u32, l: &[u8]) -> Option<Refusal>
     requires { 10 ≤ length l.now }
-    ensures { result ≡ if_any (ending_of number l.now) }
+    ensures { number_told result ≡ ending_of number l.now }
 {
     if number == LAST {
-        return Some(NO_NUMBER);
+        return Some(Refusal::NoNumber);
     }
     if is_marked(l) {
         return None;
     }
-    Some(BAD_MARK)
+    Some(Refusal::BadMark)
 }
 
 // An act's answer, soundness having been tested before the first record.
@@ -105,7 +122,9 @@ fn answer(sound: bool, w: World, a: Fields) -> Acted
         return acts::acted(w, a);
     }
     Acted {
-        event: Event::Refused { number: 19 },
+        event: Event::Refused {
+            number: acts::Refusal::Unsound.number(),
+        },
         world: w,
     }
 }
@@ -152,7 +171,7 @@ impl InPlace {
     {
         if is_quick(sound, a, th) {
             let k = calls::operand(a.thread, th.at)?;
-            let plan = calls::decide(th.at, a.choice == 1, w.word(k), false);
+            let plan = calls::decide(th.at, acts::fails(a.choice), w.word(k), false);
             return Some(InPlace::Step { k, plan });
         }
         let at = acts::start(a);
@@ -194,36 +213,36 @@ impl Ran {
     fn tell(&mut self, event: Event, grant: bool, out: &mut [u8]) -> Result<(), Stop>
         ensures { Tells event grant self.old self.new out.old out.new result }
     {
-        let end = lines::put_line(out, self.count, self.number, event);
+        let end = lines::put_line(out, self.count, self.state.number, event);
         if end == self.count {
             return Err(Stop::Room);
         }
         self.count = end;
-        self.tally.add(event, grant);
+        self.state.tally.add(event, grant);
         Ok(())
     }
 
     // Tells what a record's act answers, and then does it; `grant`: whether its thread's call takes a lock.
     fn act(&mut self, sound: bool, a: Fields, grant: bool, out: &mut [u8]) -> Result<(), Stop>
-        requires { grant ≡ grants_of (thread_at self.old.world a.thread).at }
-        ensures { Acts a (answer_of sound self.old.world a) self.old self.new out.old out.new result }
+        requires { grant ≡ grants_of (thread_at self.old.state.world a.thread).at }
+        ensures { Acts a (answer_of sound self.old.state.world a) self.old self.new out.old out.new result }
     {
-        let acted = answer(sound, self.world, a);
+        let acted = answer(sound, self.state.world, a);
         self.tell(acted.event, grant, out)?;
-        self.world = acted.world;
+        self.state.world = acted.world;
         Ok(())
     }
 
     // The same, stored in place where that is known to be the answer.
     fn quick_act(&mut self, sound: bool, a: Fields, out: &mut [u8]) -> Result<(), Stop>
-        ensures { Acts a (answer_of sound self.old.world a) self.old self.new out.old out.new result }
+        ensures { Acts a (answer_of sound self.old.state.world a) self.old self.new out.old out.new result }
     {
-        let th = self.world.thread(a.thread);
+        let th = self.state.world.thread(a.thread);
         let grant = tally::grants(th.at);
-        match InPlace::of(sound, &self.world, a, th) {
+        match InPlace::of(sound, &self.state.world, a, th) {
             Some(act) => {
                 self.tell(act.event(), grant, out)?;
-                act.store(&mut self.world, a.thread);
+                act.store(&mut self.state.world, a.thread);
                 Ok(())
             }
             None => self.act(sound, a, grant, out),
@@ -235,26 +254,25 @@ impl Ran {
         requires { 10 ≤ length l.now }
         ensures { Turns sound l.now self.old self.new out.old out.new result }
     {
-        if let Some(number) = ending(self.number, l) {
+        if let Some(refusal) = ending(self.state.number, l) {
+            let number = refusal.number();
             self.tell(Event::Refused { number }, false, out)?;
             return Err(Stop::Ended { number });
         }
         self.quick_act(sound, fields(l), out)?;
-        self.number += 1;
+        self.state.number += 1;
         Ok(())
     }
 }
 
-// Runs the records that a part of a log begins with, from the world, the tally and the number given, and
-// lays a line for each into the buffer. A world whose parts disagree has every record refused.
-pub fn run(w: World, t: Tally, number: u32, log: &[u8], out: &mut [u8]) -> Ran
-    ensures { Answers (run_of (sound_world w) (length out.old) log.now (state_of w t number)) (length log.now) result out.old out.new }
+// Runs the records that a part of a log begins with, from the state given, and lays
+// a line for each into the buffer. A world whose parts disagree has every record refused.
+pub fn run(state: State, log: &[u8], out: &mut [u8]) -> Ran
+    ensures { Answers (run_of (sound_world state.world) (length out.old) log.now state) (length log.now) result out.old out.new }
 {
-    let sound = sound::sound(w);
+    let sound = sound::sound(state.world);
     let mut ran = Ran {
-        world: w,
-        tally: t,
-        number,
+        state,
         used: 0,
         count: 0,
         stop: Stop::Short,
@@ -270,16 +288,14 @@ pub fn run(w: World, t: Tally, number: u32, log: &[u8], out: &mut [u8]) -> Ran
 }
 
 // Runs the part of a log that starts at a place; a start past the end is an empty part.
-pub fn run_from(w: World, t: Tally, number: u32, log: &[u8], from: usize, out: &mut [u8]) -> Ran
-    ensures { Answers (run_of (sound_world w) (length out.old) (drop from log.now) (state_of w t number)) (length log.now - from) result out.old out.new }
+pub fn run_from(state: State, log: &[u8], from: usize, out: &mut [u8]) -> Ran
+    ensures { Answers (run_of (sound_world state.world) (length out.old) (drop from log.now) state) (length log.now - from) result out.old out.new }
 {
     if from <= log.len() {
-        return run(w, t, number, &log[from..], out);
+        return run(state, &log[from..], out);
     }
     Ran {
-        world: w,
-        tally: t,
-        number,
+        state,
         used: 0,
         count: 0,
         stop: Stop::Short,
@@ -288,17 +304,17 @@ pub fn run_from(w: World, t: Tally, number: u32, log: &[u8], from: usize, out: &
 
 // The refusal behind the last run, with so many bytes left: any byte once the numbers are used up, else fewer
 // than a record has.
-pub fn finish(number: u32, left: usize) -> Option<u8>
-    ensures { result ≡ if_any (finish_of number left) }
+pub fn finish(number: u32, left: usize) -> Option<Refusal>
+    ensures { number_told result ≡ finish_of number left }
 {
     if left == 0 {
         return None;
     }
     if number == LAST {
-        return Some(NO_NUMBER);
+        return Some(Refusal::NoNumber);
     }
     if left < RECORD {
-        return Some(SHORT_RECORD);
+        return Some(Refusal::ShortRecord);
     }
     None
 }
@@ -311,7 +327,9 @@ pub fn put_finish(t: Tally, number: u32, left: usize, out: &mut [u8]) -> Finishe
     match finish(number, left) {
         None => Finished { tally: t, count: 0 },
         Some(refusal) => {
-            let e = Event::Refused { number: refusal };
+            let e = Event::Refused {
+                number: refusal.number(),
+            };
             Finished {
                 count: lines::put_line(out, 0, number, e),
                 tally: t.noted(e, false),
@@ -340,13 +358,13 @@ pub fn carry(buf: &mut [u8], from: usize, end: usize)
 
 // Runs the records that the first `end` bytes of a buffer begin with, and moves the bytes that are left of
 // them to its start.
-pub fn feed(w: World, t: Tally, number: u32, buf: &mut [u8], end: usize, out: &mut [u8]) -> Ran
-    ensures answers { Answers (run_of (sound_world w) (length out.old) (take end buf.old) (state_of w t number)) (length (take end buf.old)) result out.old out.new }
+pub fn feed(state: State, buf: &mut [u8], end: usize, out: &mut [u8]) -> Ran
+    ensures answers { Answers (run_of (sound_world state.world) (length out.old) (take end buf.old) state) (length (take end buf.old)) result out.old out.new }
     ensures buf_after { buf.new ≡ carried_of buf.old result.used (length (take end buf.old)) }
     ensures used_le_end { result.used ≤ end }
 {
     let stop = within(end, buf);
-    let ran = run(w, t, number, &buf[..stop], out);
+    let ran = run(state, &buf[..stop], out);
     carry(buf, ran.used, stop);
     ran
 }

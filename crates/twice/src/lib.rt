@@ -7,7 +7,7 @@ ghost use Rattle.std.specs.Prelude.{◌≡◌};
 
 use acts::Fields;
 use calls::Event;
-use replay_log::Finished;
+use replay_log::{Finished, State};
 use step::Acted;
 use tally::Tally;
 use world::World;
@@ -35,18 +35,11 @@ fn solo(w: World, t: u8, budget: u16) -> Twice<solo::Ran>
     Twice { one, two }
 }
 
-fn run(
-    w: World,
-    t: Tally,
-    number: u32,
-    log: &[u8],
-    first: &mut [u8],
-    second: &mut [u8],
-) -> Twice<replay_log::Ran>
+fn run(state: State, log: &[u8], first: &mut [u8], second: &mut [u8]) -> Twice<replay_log::Ran>
     ensures { first.old ≡ second.old → (result.one ≡ result.two) × (first.new ≡ second.new) }
 {
-    let one = replay_log::run(w, t, number, log, first);
-    let two = replay_log::run(w, t, number, log, second);
+    let one = replay_log::run(state, log, first);
+    let two = replay_log::run(state, log, second);
     Twice { one, two }
 }
 

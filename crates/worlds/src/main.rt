@@ -13,7 +13,7 @@ use calls::Event;
 use changed::Changed;
 use holds::Holds;
 use queues::Queues;
-use record::RECORD;
+use replay_log::{RECORD, Refusal};
 use std::fmt;
 use std::io::{self, Cursor, Read, Write};
 use tally::Tally;
@@ -26,9 +26,6 @@ const LAID: usize = 65536;
 // each of 32 sleepers, a number and a count for each of 32 readers of 4 locks.
 const LINES: usize = 4096;
 
-// So many records have numbers; any byte behind them is refused.
-const LAST: u32 = 0xFFFF_FFFF;
-
 // Why a run ends.
 #[derive(Clone, Copy)]
 enum End {
@@ -36,13 +33,6 @@ enum End {
     Whole,
     Refused(Refusal),
     Unreadable,
-}
-
-#[derive(Clone, Copy)]
-enum Refusal {
-    NoMark = 20,
-    TooShort = 21,
-    NoNumber = 22,
 }
 
 // The three lines on the world after an act.
@@ -132,13 +122,10 @@ impl Run {
         if count == 0 {
             return Err(End::Whole);
         }
-        if self.number == LAST {
-            return Err(End::Refused(Refusal::NoNumber));
+        if let Some(refusal) = replay_log::finish(self.number, count) {
+            return Err(End::Refused(refusal));
         }
-        if count < RECORD {
-            return Err(End::Refused(Refusal::TooShort));
-        }
-        record::fields(record.get_ref()).ok_or(End::Refused(Refusal::NoMark))
+        record::fields(record.get_ref()).ok_or(End::Refused(Refusal::BadMark))
     }
 }
 
@@ -166,7 +153,7 @@ fn replay(rt: &(impl Print + Eprint), input: &mut impl Read) -> io::Result<()> {
     match do_records(rt, input, &mut run)? {
         End::Whole => {}
         End::Refused(refusal) => {
-            let number = refusal as u8;
+            let number = refusal.number();
             run.tell(Event::Refused { number }, false);
         }
         End::Unreadable => {

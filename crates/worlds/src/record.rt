@@ -1,8 +1,6 @@
 // A record's bytes: its mark and its fields.
 use acts::Fields;
-
-// A record is so many bytes.
-pub const RECORD: usize = 10;
+use replay_log::RECORD;
 
 // The fields of a record that has the mark.
 pub fn fields(record: &[u8; RECORD]) -> Option<Fields> {

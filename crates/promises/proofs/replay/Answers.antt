@@ -11,7 +11,7 @@ pub returns : goal.returns
 returns c =
     let a = c.args in
     let bytes : Bytes a.log.now = λ k. (c.type_inv.log k).fits in
-    let fresh = c.fresh-w in
+    let fresh = c.fresh in
     let ran = c.run in
     let told =
     as-replayed (length a.out.now) (length a.log.now) a.log.now a.out.now _ a.t ran.result fresh.result fresh.ensures

@@ -1,6 +1,5 @@
 -- The run's answer, with what the theorems say of it. Assumes nothing.
 use lib.ListN.{length}
-use Rattle.replay_log.specs.Run.{state_of}
 use Rattle.parts.specs.Parts.{Bytes}
 use Rattle.parts.proofs.Acts.{unsound-run}
 use Rattle.promises.proofs.Laws.{by-acts, run-flag}
@@ -14,7 +13,7 @@ returns c =
     let told = c.run.ensures in
     record {
       answer = told;
-      by_acts = by-acts (length a.out.now) (length a.log.now) a.log.now a.out.now _ a.w a.t a.number _ shaped bytes told;
-      sound_stays = run-flag (length a.out.now) (length a.log.now) a.log.now a.out.now _ a.w a.t a.number _ shaped bytes told;
-      unsound_refused = λ e. unsound-run (length a.out.now) a.log.now (state_of a.w a.t a.number) e;
+      by_acts = by-acts (length a.out.now) (length a.log.now) a.log.now a.out.now _ a.state _ shaped bytes told;
+      sound_stays = run-flag (length a.out.now) (length a.log.now) a.log.now a.out.now _ a.state _ shaped bytes told;
+      unsound_refused = λ e. unsound-run (length a.out.now) a.log.now a.state e;
     }

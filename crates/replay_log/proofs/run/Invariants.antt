@@ -1,6 +1,5 @@
 use Rattle.std.specs.Prelude.{◌≡◌}
 use Rattle.std.specs.Slice.Iter.{chunks_exact_size, chunks_exact_rest}
-use Rattle.replay_log.specs.Run.{state_of}
 use Rattle.replay_log.proofs.Laws.{Inv}
 use Rattle.replay_log.proofs.run.Given as goal
 
@@ -9,4 +8,4 @@ invariant-loop-record l =
     (goal.iterator-loop-record).can_next l.record-iterator ×
     (goal.iterator-loop-record).is_finite l.record-iterator ×
     (chunks_exact_size l.record-iterator ≡ 10) ×
-    Inv l.sound l.log l.initial.out (state_of l.fn.w l.fn.t l.fn.number) l.out l.ran (chunks_exact_rest l.record-iterator)
+    Inv l.sound l.log l.initial.out l.fn.state l.out l.ran (chunks_exact_rest l.record-iterator)
