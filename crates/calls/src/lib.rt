@@ -4,6 +4,7 @@
 #![tactic(auto, unfolding(crate::specs::Plans::plan_of, crate::specs::Events::tell_of, crate::specs::Events::value_of, crate::specs::Events::woken_of, crate::specs::Objects::word_of, crate::specs::Plans::decide_of, crate::specs::Plans::done, crate::specs::Plans::entered, crate::specs::Plans::moved, crate::specs::Plans::panicked, crate::specs::Plans::slept, crate::specs::Positions::after_wait, crate::specs::Positions::call_of, crate::specs::Positions::condvar_call, crate::specs::Positions::condvar_exists, crate::specs::Positions::entry_of, crate::specs::Positions::exists, crate::specs::Positions::in_closure, crate::specs::Positions::is_idle, crate::specs::Positions::may_wake, crate::specs::Positions::mutex_call, crate::specs::Positions::need_of, crate::specs::Positions::once_call, crate::specs::Positions::operand_of, crate::specs::Positions::parker_call, crate::specs::Positions::parker_exists, crate::specs::Positions::passed_of, crate::specs::Positions::rwlock_call, crate::specs::Positions::waits_of, crate::specs::Positions::weak_next))]
 
 ghost use Rattle.std.specs.Prelude.{◌≡◌};
+ghost use Rattle.calls.specs.declared.At.TheVariants as A;
 ghost use Rattle.calls.specs.Objects.{WORDS, size_of, base_of, word_of};
 ghost use Rattle.words.specs.Found.{found};
 ghost use Rattle.calls.specs.Calls.{Names, number_of, told_call};
@@ -17,7 +18,7 @@ use once::{OnceAt, OnceCall};
 use queue::THREADS;
 use rwlock::{RwLockAt, RwLockCall};
 use thread_parking::{ParkerAt, ParkerCall};
-use words::{Hold, Kind, Needs, Next, Step, Wake};
+use words::{Hold, Kind, Needs, Next, Step, Wake, Within};
 
 // How many objects of each kind there are.
 pub const MUTEXES: usize = 4;
@@ -247,6 +248,53 @@ fn planned(at: At, object: u8, s: Step<At>) -> Plan
     }
 }
 
+// A call on the object of this number; a Parker's call names none. Its module's positions stand among all so:
+#[derive(Clone, Copy)]
+struct On(u8);
+
+impl Within<MutexAt, At> for On {
+    ghost within = { λ on at. A.Mutex on.0 at };
+
+    fn within(self, at: MutexAt) -> At {
+        At::Mutex { mutex: self.0, at }
+    }
+}
+
+impl Within<RwLockAt, At> for On {
+    ghost within = { λ on at. A.RwLock on.0 at };
+
+    fn within(self, at: RwLockAt) -> At {
+        At::RwLock { lock: self.0, at }
+    }
+}
+
+impl Within<CondvarAt, At> for On {
+    ghost within = { λ on at. A.Condvar on.0 at };
+
+    fn within(self, at: CondvarAt) -> At {
+        At::Condvar {
+            condvar: self.0,
+            at,
+        }
+    }
+}
+
+impl Within<OnceAt, At> for On {
+    ghost within = { λ on at. A.Once on.0 at };
+
+    fn within(self, at: OnceAt) -> At {
+        At::Once { once: self.0, at }
+    }
+}
+
+impl Within<ParkerAt, At> for On {
+    ghost within = { λ on at. A.Parker at };
+
+    fn within(self, at: ParkerAt) -> At {
+        At::Parker { at }
+    }
+}
+
 // One step of a thread at `at`, over the word that it is about; `fails`: where that is a weak exchange, it
 // fails; `anyone`: whether somebody is asleep on the word. An idle thread has no step: it stays.
 pub fn decide(at: At, fails: bool, word: u32, anyone: bool) -> Plan
@@ -256,24 +304,24 @@ pub fn decide(at: At, fails: bool, word: u32, anyone: bool) -> Plan
         At::Idle => planned(at, 0, Step::moves(word, at)),
         At::Mutex { mutex, at: p } => {
             let step = mutex::decide(p, fails, word, anyone);
-            planned(at, mutex, step.map(|at| At::Mutex { mutex, at }))
+            planned(at, mutex, step.map(On(mutex)))
         }
         At::RwLock { lock, at: p } => {
             let step = rwlock::decide(p, fails, word, anyone);
-            planned(at, lock, step.map(|at| At::RwLock { lock, at }))
+            planned(at, lock, step.map(On(lock)))
         }
         At::Condvar { condvar, at: p } => {
             let step = condvar::decide(p, fails, word, anyone);
             let object = condvar::object(condvar, p);
-            planned(at, object, step.map(|at| At::Condvar { condvar, at }))
+            planned(at, object, step.map(On(condvar)))
         }
         At::Once { once, at: p } => {
             let step = once::decide(p, fails, word, anyone);
-            planned(at, 0, step.map(|at| At::Once { once, at }))
+            planned(at, 0, step.map(On(once)))
         }
         At::Parker { at: p } => {
             let step = thread_parking::decide(p, fails, word, anyone);
-            planned(at, 0, step.map(|at| At::Parker { at }))
+            planned(at, 0, step.map(On(0)))
         }
     }
 }

@@ -3,10 +3,12 @@
 #![tactic(auto, unfolding(crate::specs::Condvar::after_wait, crate::specs::Condvar::relock_step, crate::specs::Condvar::decide_of, crate::specs::Condvar::entry_of, crate::specs::Condvar::may_wake, crate::specs::Condvar::mutex_of, crate::specs::Condvar::needs_of, crate::specs::Condvar::notify_may_wake, crate::specs::Condvar::notify_of, crate::specs::Condvar::object_of, crate::specs::Condvar::operand_of, crate::specs::Condvar::passed_of, crate::specs::Condvar::unlock_step, crate::specs::Condvar::wait_after_wait, crate::specs::Condvar::wait_may_wake, crate::specs::Condvar::wait_needs, crate::specs::Condvar::wait_object, crate::specs::Condvar::wait_of, crate::specs::Condvar::wait_operand, crate::specs::Condvar::wait_passed, crate::specs::Condvar::wait_waits, crate::specs::Condvar::waits_of, crate::specs::Condvar::weak_next))]
 
 ghost use Rattle.std.specs.Prelude.{◌≡◌};
+ghost use Rattle.condvar.specs.declared.CondvarAt.TheVariants as A;
+ghost use Rattle.condvar.specs.declared.WaitAt.TheVariants as Wt;
 ghost use Rattle.condvar.specs.Condvar.{entry_of, wait_of, notify_of, decide_of, wait_after_wait, after_wait, wait_operand, operand_of, wait_object, object_of, mutex_of, weak_next, wait_passed, passed_of, wait_needs, needs_of, wait_waits, waits_of, wait_may_wake, notify_may_wake, may_wake};
 
 use mutex::{LockAt, UnlockAt};
-use words::{CounterWord, Hold, Kind, Needs, Step, Wake};
+use words::{CounterWord, Hold, Kind, Needs, Step, Wake, Within};
 
 #[derive(Clone, Copy)]
 pub enum CondvarCall {
@@ -62,6 +64,43 @@ pub fn entry(call: CondvarCall) -> CondvarAt
     }
 }
 
+// The mutex's positions in its unlock and in its lock, as those of a wait that names it.
+#[derive(Clone, Copy)]
+struct InUnlock {
+    mutex: u8,
+    sequence: u32,
+}
+
+impl Within<UnlockAt, CondvarAt> for InUnlock {
+    ghost within = { λ wait at. A.Wait wait.mutex (Wt.Unlock wait.sequence at) };
+
+    fn within(self, at: UnlockAt) -> CondvarAt {
+        CondvarAt::Wait {
+            mutex: self.mutex,
+            at: WaitAt::Unlock {
+                sequence: self.sequence,
+                at,
+            },
+        }
+    }
+}
+
+#[derive(Clone, Copy)]
+struct InRelock {
+    mutex: u8,
+}
+
+impl Within<LockAt, CondvarAt> for InRelock {
+    ghost within = { λ wait at. A.Wait wait.mutex (Wt.Relock at) };
+
+    fn within(self, at: LockAt) -> CondvarAt {
+        CondvarAt::Wait {
+            mutex: self.mutex,
+            at: WaitAt::Relock { at },
+        }
+    }
+}
+
 // One step of `wait`.
 pub fn wait(mutex: u8, at: WaitAt, word: u32) -> Step<CondvarAt>
     ensures { result ≡ wait_of mutex at word }
@@ -76,14 +115,14 @@ pub fn wait(mutex: u8, at: WaitAt, word: u32) -> Step<CondvarAt>
             };
             Step::moves(word, to(unlock))
         }
-        WaitAt::Unlock { sequence, at } => mutex::unlock(at, word).then(
-            |at| to(WaitAt::Unlock { sequence, at }),
-            to(WaitAt::Wait { sequence }),
-        ),
+        WaitAt::Unlock { sequence, at } => {
+            let unlock = InUnlock { mutex, sequence };
+            mutex::unlock(at, word).then(unlock, to(WaitAt::Wait { sequence }))
+        }
         // Wait, but only if there hasn't been any notification since we unlocked the mutex.
         WaitAt::Wait { sequence } if word == sequence => Step::sleeps(word),
         WaitAt::Wait { .. } => Step::moves(word, to(wait_after_wait(at))),
-        WaitAt::Relock { at } => mutex::lock(at, word).map(|at| to(WaitAt::Relock { at })),
+        WaitAt::Relock { at } => mutex::lock(at, word).map(InRelock { mutex }),
     }
 }
 

@@ -3,9 +3,10 @@
 #![tactic(auto, unfolding(crate::specs::Mutex::after_wait, crate::specs::Mutex::contended, crate::specs::Mutex::decide_of, crate::specs::Mutex::entry_of, crate::specs::Mutex::lock_after_wait, crate::specs::Mutex::lock_of, crate::specs::Mutex::lock_passed, crate::specs::Mutex::lock_waits, crate::specs::Mutex::may_wake, crate::specs::Mutex::needs_of, crate::specs::Mutex::operand_of, crate::specs::Mutex::passed_of, crate::specs::Mutex::spun, crate::specs::Mutex::takes, crate::specs::Mutex::try_lock_of, crate::specs::Mutex::unlock_may_wake, crate::specs::Mutex::unlock_needs, crate::specs::Mutex::unlock_of, crate::specs::Mutex::waits_of, crate::specs::Mutex::weak_next))]
 
 ghost use Rattle.std.specs.Prelude.{◌≡◌};
+ghost use Rattle.mutex.specs.declared.MutexAt.TheVariants as M;
 ghost use Rattle.mutex.specs.Mutex.{entry_of, lock_of, contended, spun, try_lock_of, unlock_of, decide_of, lock_after_wait, after_wait, operand_of, weak_next, lock_passed, passed_of, unlock_needs, needs_of, lock_waits, waits_of, unlock_may_wake, may_wake, takes};
 
-use words::{Hold, Kind, MutexWord, Needs, SPINS, Step, Wake};
+use words::{Hold, Kind, MutexWord, Needs, SPINS, Step, Wake, Within};
 
 #[derive(Clone, Copy)]
 pub enum MutexCall {
@@ -141,15 +142,35 @@ pub fn unlock(at: UnlockAt, word: u32) -> Step<UnlockAt>
     }
 }
 
+// A call on a mutex: the positions of `lock` and of `unlock` stand among its own so.
+#[derive(Clone, Copy)]
+struct Whole;
+
+impl Within<LockAt, MutexAt> for Whole {
+    ghost within = { λ whole at. M.Lock at };
+
+    fn within(self, at: LockAt) -> MutexAt {
+        MutexAt::Lock { at }
+    }
+}
+
+impl Within<UnlockAt, MutexAt> for Whole {
+    ghost within = { λ whole at. M.Unlock at };
+
+    fn within(self, at: UnlockAt) -> MutexAt {
+        MutexAt::Unlock { at }
+    }
+}
+
 // One step of a thread at `at`, over the mutex's word. No exchange of this module is weak, and none of
 // its calls asks whether it woke anybody.
 pub fn decide(at: MutexAt, fails: bool, word: u32, anyone: bool) -> Step<MutexAt>
     ensures { result ≡ decide_of at fails word anyone }
 {
     match at {
-        MutexAt::Lock { at } => lock(at, word).map(|at| MutexAt::Lock { at }),
+        MutexAt::Lock { at } => lock(at, word).map(Whole),
         MutexAt::TryLock => try_lock(word),
-        MutexAt::Unlock { at } => unlock(at, word).map(|at| MutexAt::Unlock { at }),
+        MutexAt::Unlock { at } => unlock(at, word).map(Whole),
     }
 }
 

@@ -31,18 +31,13 @@ impl fmt::Display for Answer {
     }
 }
 
-// `forge` makes a case's world, and `record` is what is done to it.
-pub fn print<C: fmt::Display + Copy, F: Fn(C) -> (World, Record)>(
+// The line of a case: its world, and what is done to it.
+pub fn print<C: fmt::Display>(
     rt: &impl Print,
     section: &str,
-    cases: &[C],
-    forge: F,
-) -> io::Result<()>
-    requires { F.IsAlwaysCallable forge }
-{
-    for case in cases {
-        let (world, record) = forge(*case);
-        println!(rt; "{section}: {case}: {}", Answer::new(world, record))?;
-    }
-    Ok(())
+    case: &C,
+    world: World,
+    record: Record,
+) -> io::Result<()> {
+    println!(rt; "{section}: {case}: {}", Answer::new(world, record))
 }

@@ -31,5 +31,8 @@ const CASES: [Start; 21] = [
 ];
 
 pub fn lines(rt: &impl Print) -> io::Result<()> {
-    lines::print(rt, "names", &CASES, |case| (case.world(), Record::step(0)))
+    for case in &CASES {
+        lines::print(rt, "names", case, case.world(), Record::step(0))?;
+    }
+    Ok(())
 }

@@ -38,6 +38,11 @@ const AFTER: [Inside; 4] = [
 ];
 
 pub fn lines(rt: &impl Print) -> io::Result<()> {
-    lines::print(rt, "needs", &STARTS, |case| (case.world(), Record::step(0)))?;
-    lines::print(rt, "after", &AFTER, |case| (case.awake(), Record::step(0)))
+    for case in &STARTS {
+        lines::print(rt, "needs", case, case.world(), Record::step(0))?;
+    }
+    for case in &AFTER {
+        lines::print(rt, "after", case, case.awake(), Record::step(0))?;
+    }
+    Ok(())
 }

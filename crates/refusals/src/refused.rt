@@ -187,7 +187,9 @@ pub fn lines(rt: &impl Print) -> io::Result<()> {
         HOLDS.as_slice(),
         OTHERS.as_slice(),
     ] {
-        lines::print(rt, "refusals", cases, |case| (case.world(), case.record()))?;
+        for case in cases {
+            lines::print(rt, "refusals", case, case.world(), case.record())?;
+        }
     }
     Ok(())
 }

@@ -109,11 +109,11 @@ impl fmt::Display for Sleepers {
 }
 
 pub fn lines(rt: &impl Print) -> io::Result<()> {
-    lines::print(rt, "sleepers", &ROWS, |case| (case.world(), case.record()))?;
-    lines::print(
-        rt,
-        "asleep",
-        &ASLEEP,
-        |case| (case.asleep(), Record::wake(0)),
-    )
+    for case in &ROWS {
+        lines::print(rt, "sleepers", case, case.world(), case.record())?;
+    }
+    for case in &ASLEEP {
+        lines::print(rt, "asleep", case, case.asleep(), Record::wake(0))?;
+    }
+    Ok(())
 }

@@ -45,7 +45,14 @@ fn set() -> Record {
 }
 
 pub fn lines(rt: &impl Print) -> io::Result<()> {
-    lines::print(rt, "starts", &WORDS, |case| (case.world(false), set()))?;
-    lines::print(rt, "starts", &LOCKS, |case| (case.world(false), set()))?;
-    lines::print(rt, "starts", &THREADS, |case| (case.world(), case.record()))
+    for case in &WORDS {
+        lines::print(rt, "starts", case, case.world(false), set())?;
+    }
+    for case in &LOCKS {
+        lines::print(rt, "starts", case, case.world(false), set())?;
+    }
+    for case in &THREADS {
+        lines::print(rt, "starts", case, case.world(), case.record())?;
+    }
+    Ok(())
 }

@@ -121,16 +121,16 @@ pub fn lines(rt: &impl Print) -> io::Result<()> {
         READS.as_slice(),
         WRITES.as_slice(),
     ] {
-        lines::print(rt, "values", cases, |case| (case.awake(), Record::step(0)))?;
+        for case in cases {
+            lines::print(rt, "values", case, case.awake(), Record::step(0))?;
+        }
     }
     Ok(())
 }
 
 pub fn failing_lines(rt: &impl Print) -> io::Result<()> {
-    lines::print(
-        rt,
-        "failing",
-        &FAILING,
-        |case| (case.awake(), Record::failing_step(0)),
-    )
+    for case in &FAILING {
+        lines::print(rt, "failing", case, case.awake(), Record::failing_step(0))?;
+    }
+    Ok(())
 }

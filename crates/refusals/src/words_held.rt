@@ -157,9 +157,13 @@ fn begin() -> Record {
 }
 
 pub fn lines(rt: &impl Print) -> io::Result<()> {
-    lines::print(rt, "words", &WORDS, |case| (case.world(true), begin()))?;
+    for case in &WORDS {
+        lines::print(rt, "words", case, case.world(true), begin())?;
+    }
     for cases in [READS.as_slice(), WRITERS.as_slice(), SUMS.as_slice()] {
-        lines::print(rt, "locks", cases, |case| (case.world(true), begin()))?;
+        for case in cases {
+            lines::print(rt, "locks", case, case.world(true), begin())?;
+        }
     }
     Ok(())
 }

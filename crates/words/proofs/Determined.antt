@@ -8,7 +8,7 @@ use Rattle.words.specs.declared.Hold.{Hold}
 use Rattle.words.specs.declared.Panic.{Panic}
 use Rattle.words.specs.declared.Step.{Step}
 use Rattle.words.specs.declared.Wake.{Wake}
-use Rattle.words.specs.Steps.{moves_with, moves, sleeps, ends, panics, enters, MapsStep, LeadsOn}
+use Rattle.words.specs.Steps.{moves_with, moves, sleeps, ends, panics, enters, map_step, then_step}
 use Rattle.words.specs.Once.{is_queued, state_of, running_with, with_queued}
 use Rattle.words.specs.Panic.{number_of}
 use Rattle.words.specs.Parker.{PARKED, is_notified, is_parked, less_one}
@@ -130,13 +130,9 @@ Step-ends-determined word value hold wake = determined (ends word value hold wak
 pub Step-panics-determined : {A : Type 0} (word : ℕ) (panic : Panic) (wake : Wake) → Determined {A = Step A} (panics word panic wake)
 Step-panics-determined word panic wake = determined (panics word panic wake)
 
--- with a closure that gives what a function gives, as each that this repository passes does
-pub Step-map-determined :
-    {A B : Type 0} (gives : A → B → Type 0) (s : Step A) (f : A → B) → ((a : A) (b : B) → gives a b → b ≡ f a) →
-    (t u : Step B) → MapsStep gives s t → MapsStep gives s u → t ≡ u
-Step-map-determined gives s f pure t u m n = m f pure ∙ sym (n f pure)
+-- at each place of a call in a greater one
+pub Step-map-determined : {A B : Type 0} (within : A → B) (s : Step A) → Determined (map_step within s)
+Step-map-determined within s = determined (map_step within s)
 
-pub Step-then-determined :
-    {A B : Type 0} (gives : A → B → Type 0) (after : B) (s : Step A) (f : A → B) → ((a : A) (b : B) → gives a b → b ≡ f a) →
-    (t u : Step B) → LeadsOn gives after s t → LeadsOn gives after s u → t ≡ u
-Step-then-determined gives after s f pure t u m n = m f pure ∙ sym (n f pure)
+pub Step-then-determined : {A B : Type 0} (within : A → B) (after : B) (s : Step A) → Determined (then_step within after s)
+Step-then-determined within after s = determined (then_step within after s)

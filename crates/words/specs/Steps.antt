@@ -49,10 +49,3 @@ then_next f after (N.Closure at) = N.Closure (f at)
 
 abbrev pub then_step : {A B : Type 0} → (A → B) → B → Step A → Step B
 then_step f after s = record { word = s.word; next = then_next f after s.next; hold = s.hold; wake = s.wake }
-
--- both, where `gives` says what the function gives of a position
-abbrev pub MapsStep : {A B : Type 0} → (A → B → Type 0) → Step A → Step B → Type 0
-MapsStep {A} {B} gives s t = (f : A → B) → ((a : A) (b : B) → gives a b → b ≡ f a) → t ≡ map_step f s
-
-abbrev pub LeadsOn : {A B : Type 0} → (A → B → Type 0) → B → Step A → Step B → Type 0
-LeadsOn {A} {B} gives after s t = (f : A → B) → ((a : A) (b : B) → gives a b → b ≡ f a) → t ≡ then_step f after s

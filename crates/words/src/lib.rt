@@ -6,7 +6,7 @@ ghost use Rattle.std.specs.Prelude.{◌≡◌};
 ghost use Rattle.words.specs.Atomic.{exchanges, wrapping_add, wrapping_sub};
 ghost use Rattle.words.specs.Counter.{incremented};
 ghost use Rattle.words.specs.Panic.{number_of};
-ghost use Rattle.words.specs.Steps.{moves_with, moves, sleeps, ends, panics, enters, MapsStep, LeadsOn};
+ghost use Rattle.words.specs.Steps.{moves_with, moves, sleeps, ends, panics, enters, map_step, then_step};
 ghost use Rattle.words.specs.Mutex.{is_contended, is_locked, is_unlocked as is_mutex_unlocked};
 ghost use Rattle.words.specs.Once.{is_queued, state_of, running_with, with_queued};
 ghost use Rattle.words.specs.Parker.{PARKED, is_notified, is_parked, less_one};
@@ -102,6 +102,14 @@ pub struct Step<A> {
     pub wake: Wake,
 }
 
+// Where a call stands in a greater one, whose positions are of type B: a position of it, as one of those.
+pub trait Within<A, B> {
+    ghost within: { Self → A → B };
+
+    fn within(self, at: A) -> B
+        ensures { result ≡ within self at };
+}
+
 impl<A: Copy + Drop> Step<A> {
     pub fn moves_with(word: u32, at: A, hold: Hold, wake: Wake) -> Self
         ensures { result ≡ moves_with word at hold wake }
@@ -166,17 +174,16 @@ impl<A: Copy + Drop> Step<A> {
         }
     }
 
-    // .. as one of a greater call, in which its positions stand as `place` has them.
-    pub fn map<B, F: Fn(A) -> B>(self, place: F) -> Step<B>
-        requires { F.IsAlwaysCallable place }
-        ensures { MapsStep (F.post place) self result }
+    // .. as one of a greater call.
+    pub fn map<B, P: Within<A, B> + Copy + Drop>(self, place: P) -> Step<B>
+        ensures { result ≡ map_step (P.within place) self }
     {
         let next = match self.next {
-            Next::Moved(at) => Next::Moved(place(at)),
+            Next::Moved(at) => Next::Moved(place.within(at)),
             Next::Asleep => Next::Asleep,
             Next::Ended(value) => Next::Ended(value),
             Next::Panics(panic) => Next::Panics(panic),
-            Next::Closure(at) => Next::Closure(place(at)),
+            Next::Closure(at) => Next::Closure(place.within(at)),
         };
         Step {
             word: self.word,
@@ -187,16 +194,15 @@ impl<A: Copy + Drop> Step<A> {
     }
 
     // .. that goes on at `after` where this one ends.
-    pub fn then<B: Copy + Drop, F: Fn(A) -> B>(self, place: F, after: B) -> Step<B>
-        requires { F.IsAlwaysCallable place }
-        ensures { LeadsOn (F.post place) after self result }
+    pub fn then<B: Copy + Drop, P: Within<A, B> + Copy + Drop>(self, place: P, after: B) -> Step<B>
+        ensures { result ≡ then_step (P.within place) after self }
     {
         let next = match self.next {
-            Next::Moved(at) => Next::Moved(place(at)),
+            Next::Moved(at) => Next::Moved(place.within(at)),
             Next::Asleep => Next::Asleep,
             Next::Ended(_) => Next::Moved(after),
             Next::Panics(panic) => Next::Panics(panic),
-            Next::Closure(at) => Next::Closure(place(at)),
+            Next::Closure(at) => Next::Closure(place.within(at)),
         };
         Step {
             word: self.word,
