@@ -13,8 +13,11 @@ use Rattle.words.specs.declared.Next.{Next}
 use Rattle.words.specs.declared.Next.TheVariants as Nx
 use Rattle.words.specs.declared.Step.{Step}
 use Rattle.words.specs.Steps.{map_next, map_step}
+use Rattle.mutex.specs.declared.MutexAt.{MutexAt}
 use Rattle.mutex.specs.Mutex as Mx
+use Rattle.rwlock.specs.declared.RwLockAt.{RwLockAt}
 use Rattle.rwlock.specs.RwLock as Rw
+use Rattle.condvar.specs.declared.CondvarAt.{CondvarAt}
 use Rattle.condvar.specs.Condvar as Cv
 use Rattle.once.specs.declared.CallAt.{CallAt}
 use Rattle.once.specs.declared.CallAt.TheVariants as C
@@ -23,11 +26,12 @@ use Rattle.once.specs.declared.WaitAt.TheVariants as Wt
 use Rattle.once.specs.declared.OnceAt.{OnceAt}
 use Rattle.once.specs.declared.OnceAt.TheVariants as O
 use Rattle.once.specs.Once as On
+use Rattle.thread_parking.specs.declared.ParkerAt.{ParkerAt}
 use Rattle.thread_parking.specs.ThreadParking as Pk
 use Rattle.calls.specs.declared.At.{At}
 use Rattle.calls.specs.declared.At.TheVariants as A
 use Rattle.calls.specs.declared.Plan.{Plan}
-use Rattle.calls.specs.Plans.{awake, moved, slept, done, panicked, entered, decide_of, plan_next, plan_of}
+use Rattle.calls.specs.Plans.{awake, moved, slept, done, panicked, entered, mutex_plan, rwlock_plan, condvar_plan, once_plan, parker_plan, decide_of, plan_next, plan_of}
 use Rattle.calls.specs.Positions.{in_closure, is_idle}
 use Rattle.acts.specs.Refusals.{step_refusal}
 use Rattle.calls.specs.Events.{goes_on, is_step}
@@ -66,15 +70,32 @@ ready f h (Nx.Ended v) = refl
 ready f h (Nx.Panics k) = refl
 ready f h (Nx.Closure q) = refl
 
+-- .. of every step, at each of these four modules
+pub mutex-leads : (m : ℕ) (p : MutexAt) (s : Step MutexAt) → Leads (mutex_plan m p s)
+unfolding step_refusal is_idle in_closure
+mutex-leads m p s = plan-leads (A.Mutex m p) m (map_step (A.Mutex m) s) (ready (A.Mutex m) (λ q. refl) s.next)
+
+pub rwlock-leads : (l : ℕ) (p : RwLockAt) (s : Step RwLockAt) → Leads (rwlock_plan l p s)
+unfolding step_refusal is_idle in_closure
+rwlock-leads l p s = plan-leads (A.RwLock l p) l (map_step (A.RwLock l) s) (ready (A.RwLock l) (λ q. refl) s.next)
+
+pub condvar-leads : (c : ℕ) (p : CondvarAt) (o : ℕ) (s : Step CondvarAt) → Leads (condvar_plan c p o s)
+unfolding step_refusal is_idle in_closure
+condvar-leads c p o s = plan-leads (A.Condvar c p) o (map_step (A.Condvar c) s) (ready (A.Condvar c) (λ q. refl) s.next)
+
+pub parker-leads : (p : ParkerAt) (s : Step ParkerAt) → Leads (parker_plan p s)
+unfolding step_refusal is_idle in_closure
+parker-leads p s = plan-leads (A.Parker p) 0 (map_step A.Parker s) (ready A.Parker (λ q. refl) s.next)
+
 -- a Once's step enters a closure by the event of that name alone
-outside : Next OnceAt → Bool
+unfoldable pub outside : Next OnceAt → Bool
 outside (Nx.Moved q) = not (On.in_closure q)
 outside Nx.Asleep = true
 outside (Nx.Ended v) = true
 outside (Nx.Panics k) = true
 outside (Nx.Closure q) = true
 
-Outside : Step OnceAt → Type 0
+unfoldable pub Outside : Step OnceAt → Type 0
 Outside s = outside s.next ≡ true
 
 module _ (i : Bool) (word : ℕ) where
@@ -131,22 +152,16 @@ once-ready o (Nx.Ended v) h = refl
 once-ready o (Nx.Panics k) h = refl
 once-ready o (Nx.Closure q) h = refl
 
+pub once-leads : (o : ℕ) (p : OnceAt) (s : Step OnceAt) → Outside s → Leads (once_plan o p s)
+unfolding Outside
+once-leads o p s h = plan-leads (A.Once o p) 0 (map_step (A.Once o) s) (once-ready o s.next h)
+
 -- of every thread that is in a call
 pub leads : (at : At) (f : Bool) (word : ℕ) (a : Bool) → is_idle at ≡ false → Leads (decide_of at f word a)
-unfolding decide_of is_idle step_refusal in_closure Outside
+unfolding decide_of is_idle
 leads A.Idle f word a n = no_way (sym n)
-leads (A.Mutex m p) f word a n =
-    let s = Mx.decide_of p f word a in
-    plan-leads (A.Mutex m p) m (map_step (A.Mutex m) s) (ready (A.Mutex m) (λ q. refl) s.next)
-leads (A.RwLock l p) f word a n =
-    let s = Rw.decide_of p f word a in
-    plan-leads (A.RwLock l p) l (map_step (A.RwLock l) s) (ready (A.RwLock l) (λ q. refl) s.next)
-leads (A.Condvar c p) f word a n =
-    let s = Cv.decide_of p f word a in
-    plan-leads (A.Condvar c p) (Cv.object_of c p) (map_step (A.Condvar c) s) (ready (A.Condvar c) (λ q. refl) s.next)
-leads (A.Once o p) f word a n =
-    let s = On.decide_of p f word a in
-    plan-leads (A.Once o p) 0 (map_step (A.Once o) s) (once-ready o s.next (once-outside p f word a))
-leads (A.Parker p) f word a n =
-    let s = Pk.decide_of PARKED p f word a in
-    plan-leads (A.Parker p) 0 (map_step A.Parker s) (ready A.Parker (λ q. refl) s.next)
+leads (A.Mutex m p) f word a n = mutex-leads m p (Mx.decide_of p f word a)
+leads (A.RwLock l p) f word a n = rwlock-leads l p (Rw.decide_of p f word a)
+leads (A.Condvar c p) f word a n = condvar-leads c p (Cv.object_of c p) (Cv.decide_of p f word a)
+leads (A.Once o p) f word a n = once-leads o p (On.decide_of p f word a) (once-outside p f word a)
+leads (A.Parker p) f word a n = parker-leads p (Pk.decide_of PARKED p f word a)
