@@ -1,5 +1,5 @@
 -- The run's definition, unrolled by one step: it goes on, it stops, its budget is used up. Assumes nothing.
-use Prim.Native.Nat.{ℕ, suc, ◌+◌, ◌-◌, ◌<◌}
+use Prim.Native.Nat.{ℕ, suc, ◌+◌, ◌-◌, ◌≤◌, ◌<◌}
 use mathlib.Core.Path.{◌≡◌, refl, sym, ap, ◌∙◌}
 use mathlib.Core.Bool.{Bool, true, false}
 use native.Mathlib.Omega.{arith}
@@ -26,6 +26,12 @@ module _ {a : Acted} {more : ℕ} {on : Bool} (budget n k : ℕ) (v : World) (t 
   stops-here h halts = let q : goes_on a.event ≡ false = sym s ∙ halts in one h ∙ rw (← e, q, w) refl
 
 -- no step is left
-pub used-up : (budget n k : ℕ) (v : World) (t : ℕ) → n ≡ budget → run_from (budget - n) n k v t ≡ record { event = E.Moved 0; count = budget; woken = k; world = v }
+pub used-up : (budget n k : ℕ) (v : World) (t : ℕ) → budget ≤ n → run_from (budget - n) n k v t ≡ record { event = E.Moved 0; count = n; woken = k; world = v }
 unfolding run_from
-used-up budget n k v t h = let q : budget - budget ≡ 0 = omega arith in rw (h, q)
+used-up budget n k v t h = let q : budget - n ≡ 0 = omega arith in ap (λ (m : ℕ). run_from m n k v t) q
+
+-- .. and the budget is what was used
+pub all-used : (budget n k : ℕ) (v : World) (t : ℕ) → n ≡ budget → run_from (budget - n) n k v t ≡ record { event = E.Moved 0; count = budget; woken = k; world = v }
+all-used budget n k v t h =
+    let q : budget ≤ n = omega arith in
+    used-up budget n k v t q ∙ ap (λ (m : ℕ). record { event = E.Moved 0; count = m; woken = k; world = v }) h

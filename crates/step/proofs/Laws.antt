@@ -26,7 +26,7 @@ use Rattle.calls.specs.Positions.{operand_of}
 use Rattle.world.specs.declared.World.{World}
 use Rattle.world.specs.World.{thread_at, word_at, sleeps_on, on_word, with_sleepers}
 use Rattle.step.specs.declared.Acted.{Acted}
-use Rattle.step.specs.Step.{roused, rouse_all, woken_one, apply_plan, refused, step_of}
+use Rattle.step.specs.Step.{Woken, roused, rouse_all, woken_one, apply_plan, refused, step_of}
 
 -- one more record roused, at place t
 pub rouse-turn :
@@ -104,12 +104,18 @@ only_is t u = by (eqb u t) (ltb t THREADS) refl refl
 abbrev taken_if : Row → ℕ → Bool → Taken
 taken_if row place c = cond c (record { row = taken_out row place; thread = get_or row.places place 0; ok = true }) (no_one row)
 
--- nobody leaves the row, and nobody wakes
+-- nobody is taken out of the row, and nobody wakes
 pub nobody-woken :
+    (w : World) (place : ℕ) (taken : Taken) → taken ≡ take_out_of w.sleepers place → taken.ok ≡ false →
+    ◌≡◌ {A = Woken} (record { world = w; count = 0 }) (woken_one w (take_out_of w.sleepers place))
+nobody-woken w place taken et none = rw (← et, none)
+
+-- .. with the row that this leaves
+pub nobody-leaves :
     (w : World) (place : ℕ) (row : Row) → row ≡ (take_out_of w.sleepers place).row → thread_of (take_out_of w.sleepers place) ≡ None →
     with_sleepers w w.threads row ≡ (woken_one w (take_out_of w.sleepers place)).world
 unfolding take_out_of
-nobody-woken w place row = by (ltb place w.sleepers.count && ltb place THREADS)
+nobody-leaves w place row = by (ltb place w.sleepers.count && ltb place THREADS)
   where
     by :
         (c : Bool) → row ≡ (taken_if w.sleepers place c).row → thread_of (taken_if w.sleepers place c) ≡ None →

@@ -1,7 +1,7 @@
 use Rattle.std.proofs.Common.{◌+◌, sym, ap, ◌∙◌, arith}
 use Rattle.solo.specs.declared.Stop.{Stop}
 use Rattle.solo.specs.Solo.{stop_of, answer_of}
-use Rattle.solo.proofs.Laws.{goes_on_lem, stops-here, used-up}
+use Rattle.solo.proofs.Laws.{goes_on_lem, stops-here, all-used}
 use Rattle.solo.proofs.run.Goals as goal
 
 pub returns-then-not-goes_on : goal.returns-then-not-goes_on
@@ -27,4 +27,4 @@ unfolding answer_of stop_of
 returns c =
     let a = c.args in
     let k = c.loop-count in
-    ap answer_of (sym (used-up a.budget k.count k.woken k.v a.t (omega arith)) ∙ k.invariant.1)
+    ap answer_of (sym (all-used a.budget k.count k.woken k.v a.t (omega arith)) ∙ k.invariant.1)
