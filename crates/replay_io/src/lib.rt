@@ -2,7 +2,9 @@
 // written to the other. Where reading or writing fails it says so on standard error and ends, with no tally.
 #![tactic(auto)]
 
-ghost use Rattle.std.specs.Prelude.{◌≤◌, IfOk};
+ghost use Rattle.std.specs.Prelude.{◌≡◌, ◌≤◌, take, slice_range, IfOk};
+ghost use Rattle.std.specs.Io.KnownBytes.{Consumes};
+ghost use Rattle.replay_io.specs.Session.{RanOn};
 
 use replay_log::{State, Stop};
 use std::fmt;
@@ -73,19 +75,28 @@ impl Session {
         }
     }
 
-    // One read behind the bytes that were carried over, the run over what is whole in the buffer, and its lines
-    // written. A read that a signal interrupts has failed.
-    fn turn<R: Read, W: Write>(&mut self, input: &mut R, output: &mut W) -> Result<Next, Failure>
+    // One read behind the bytes that were carried over: how many bytes there are then. A read that a signal
+    // interrupts has failed.
+    fn fill<R: Read>(&mut self, input: &mut R) -> Result<usize, Failure>
         requires { self.old.have ≤ 24000 }
-        ensures { IfOk result (λ next. self.new.have ≤ 24000) }
+        ensures within { IfOk result (λ end. (self.old.have ≤ end) × (end ≤ 24000)) }
+        ensures behind { IfOk result (λ end. Consumes (R.remaining input.old) (R.remaining input.new) (slice_range self.new.buf self.old.have end)) }
+        ensures before { take self.old.have self.new.buf ≡ take self.old.have self.old.buf }
+        ensures rest { self.new ≡ record self.old { buf = self.new.buf } }
     {
         let n = input
             .read(&mut self.buf[self.have..CHUNK])
             .map_err(|_| Failure::Read)?;
-        if n == 0 {
-            return Ok(Next::Finish);
-        }
-        let end = self.have + n;
+        Ok(self.have + n)
+    }
+
+    // The run over what is whole in the first `end` bytes of the buffer, and its lines written. The bytes that it
+    // leaves are carried over.
+    #[tactic(auto, unfolding(replay_log::specs::Run::ran_of))]
+    fn run<W: Write>(&mut self, end: usize, output: &mut W) -> Result<Next, Failure>
+        ensures within { IfOk result (λ next. self.new.have ≤ end) }
+        ensures ran { IfOk result (λ next. RanOn self.old end next self.new) }
+    {
         let ran = replay_log::feed(self.state, &mut self.buf, end, &mut self.out);
         put(output, &self.out[..ran.count])?;
         self.state = ran.state;
@@ -102,6 +113,18 @@ impl Session {
                 Ok(Next::Finish)
             }
         }
+    }
+
+    // One read, and the run over what there is then; without new bytes the replay is at its end.
+    fn turn<R: Read, W: Write>(&mut self, input: &mut R, output: &mut W) -> Result<Next, Failure>
+        requires { self.old.have ≤ 24000 }
+        ensures { IfOk result (λ next. self.new.have ≤ 24000) }
+    {
+        let end = self.fill(input)?;
+        if end == self.have {
+            return Ok(Next::Finish);
+        }
+        self.run(end, output)
     }
 
     // The last lines: a refusal for bytes that are left, and the tally.
