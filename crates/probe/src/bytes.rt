@@ -1,11 +1,12 @@
 // Values in the bytes of a case, the low byte of a number first: taken from the front of what is left of a case,
-// and written in two hexadecimal digits a byte.
-use std::{array, fmt};
+// and laid in two hexadecimal digits a byte.
+use crate::case::WORLD;
+use std::{array, fmt, str};
 
 pub trait Stored: Sized {
     fn take(case: &mut Case<'_>) -> Self;
 
-    fn write<W: fmt::Write>(&self, f: &mut fmt::Formatter<W>) -> fmt::Result;
+    fn lay(&self, digits: &mut Digits);
 }
 
 // What is left of a case.
@@ -24,13 +25,40 @@ impl<'a> Case<'a> {
     }
 }
 
+// The digits of a world's bytes.
+const DIGITS: usize = 2 * WORLD;
+
+// Digits that are laid, one behind the other. Where no two more have room, no more are laid.
+#[derive(Clone, Copy)]
+pub struct Digits {
+    text: [u8; DIGITS],
+    count: usize,
+}
+
+impl Digits {
+    fn lay(&mut self, byte: u8) {
+        const OF: &[u8; 16] = b"0123456789abcdef";
+        if self.count < DIGITS - 1 {
+            self.text[self.count] = OF[(byte / 16) as usize];
+            self.text[self.count + 1] = OF[(byte % 16) as usize];
+            self.count += 2;
+        }
+    }
+}
+
 // A value's bytes in hexadecimal digits.
 #[derive(Clone, Copy)]
 pub struct Hex<'a, T>(pub &'a T);
 
 impl<T: Stored> fmt::Display for Hex<'_, T> {
     fn fmt<W: fmt::Write>(&self, f: &mut fmt::Formatter<W>) -> fmt::Result {
-        self.0.write(f)
+        let mut digits = Digits {
+            text: [0; DIGITS],
+            count: 0,
+        };
+        self.0.lay(&mut digits);
+        let laid = digits.text.get(..digits.count).unwrap_or_default();
+        f.write_str(str::from_utf8(laid).unwrap_or_default())
     }
 }
 
@@ -44,8 +72,8 @@ impl Stored for u8 {
         *first
     }
 
-    fn write<W: fmt::Write>(&self, f: &mut fmt::Formatter<W>) -> fmt::Result {
-        write!(f, "{self:02x}")
+    fn lay(&self, digits: &mut Digits) {
+        digits.lay(*self);
     }
 }
 
@@ -55,8 +83,8 @@ impl Stored for bool {
         u8::take(case) != 0
     }
 
-    fn write<W: fmt::Write>(&self, f: &mut fmt::Formatter<W>) -> fmt::Result {
-        f.write_str(if *self { "01" } else { "00" })
+    fn lay(&self, digits: &mut Digits) {
+        u8::from(*self).lay(digits);
     }
 }
 
@@ -65,8 +93,8 @@ impl Stored for u32 {
         u32::from_le_bytes(case.take())
     }
 
-    fn write<W: fmt::Write>(&self, f: &mut fmt::Formatter<W>) -> fmt::Result {
-        write!(f, "{:08x}", self.swap_bytes())
+    fn lay(&self, digits: &mut Digits) {
+        self.to_le_bytes().lay(digits);
     }
 }
 
@@ -75,10 +103,9 @@ impl<T: Stored, const N: usize> Stored for [T; N] {
         array::from_fn(|_| case.take())
     }
 
-    fn write<W: fmt::Write>(&self, f: &mut fmt::Formatter<W>) -> fmt::Result {
+    fn lay(&self, digits: &mut Digits) {
         for value in self {
-            value.write(f)?;
+            value.lay(digits);
         }
-        Ok(())
     }
 }

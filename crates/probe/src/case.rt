@@ -1,10 +1,9 @@
 // A case: the world that its bytes say, whatever they are, and what is to be done to it.
-use crate::bytes::{Case, Stored};
+use crate::bytes::{Case, Digits, Stored};
 use crate::record::RECORD;
 use acts::Fields;
 use calls::{RWLOCKS, WORDS};
 use queue::{Row, THREADS};
-use std::fmt;
 use world::{LOCK_HOLDS, MUTEX_HOLDS, World};
 
 // The bytes of the words, of a hold of each thread on each mutex and each lock, of the counts of reads, and of the
@@ -16,8 +15,10 @@ const SLEEPERS: usize = THREADS * RECORD + THREADS + 8 + 1;
 
 const DEED: usize = 9;
 
-// The bytes of a case.
-pub const CASE: usize = HOLDS + SLEEPERS + DEED;
+// The bytes of a world, and of a case.
+pub const WORLD: usize = HOLDS + SLEEPERS;
+
+pub const CASE: usize = WORLD + DEED;
 
 // What is to be done: an act, or a thread run alone.
 #[derive(Clone, Copy)]
@@ -52,9 +53,9 @@ impl Stored for Row {
         }
     }
 
-    fn write<W: fmt::Write>(&self, f: &mut fmt::Formatter<W>) -> fmt::Result {
-        self.places.write(f)?;
-        self.count.to_le_bytes().write(f)
+    fn lay(&self, digits: &mut Digits) {
+        self.places.lay(digits);
+        self.count.to_le_bytes().lay(digits);
     }
 }
 
@@ -72,14 +73,14 @@ impl Stored for World {
         }
     }
 
-    fn write<W: fmt::Write>(&self, f: &mut fmt::Formatter<W>) -> fmt::Result {
-        self.words.write(f)?;
-        self.locked.write(f)?;
-        self.written.write(f)?;
-        self.reads.write(f)?;
-        self.forgotten.write(f)?;
-        self.threads.write(f)?;
-        self.sleepers.write(f)?;
-        self.started.write(f)
+    fn lay(&self, digits: &mut Digits) {
+        self.words.lay(digits);
+        self.locked.lay(digits);
+        self.written.lay(digits);
+        self.reads.lay(digits);
+        self.forgotten.lay(digits);
+        self.threads.lay(digits);
+        self.sleepers.lay(digits);
+        self.started.lay(digits);
     }
 }

@@ -2,13 +2,12 @@
 // the table of positions, in the order in which they stand here.
 ghost use Rattle.std.specs.Prelude.{◌<◌};
 
-use crate::bytes::{Case, Stored};
+use crate::bytes::{Case, Digits, Stored};
 use calls::{At, Thread};
 use condvar::{CondvarAt, NotifyAt};
 use mutex::{LockAt, MutexAt, UnlockAt};
 use once::{CallAt, Ending, OnceAt};
 use rwlock::{DowngradeAt, ReadAt, RwLockAt, TryAt, WakeAt, WriteAt};
-use std::fmt;
 use thread_parking::{ParkAt, ParkerAt, UnparkAt};
 
 // The bytes of a record.
@@ -50,16 +49,16 @@ impl Stored for Record {
         }
     }
 
-    fn write<W: fmt::Write>(&self, f: &mut fmt::Formatter<W>) -> fmt::Result {
-        self.position.write(f)?;
-        self.asleep.write(f)?;
-        self.object.write(f)?;
-        self.mutex.write(f)?;
-        self.left.write(f)?;
-        self.call_flag.write(f)?;
-        self.place_flag.write(f)?;
-        self.ending.write(f)?;
-        self.word.write(f)
+    fn lay(&self, digits: &mut Digits) {
+        self.position.lay(digits);
+        self.asleep.lay(digits);
+        self.object.lay(digits);
+        self.mutex.lay(digits);
+        self.left.lay(digits);
+        self.call_flag.lay(digits);
+        self.place_flag.lay(digits);
+        self.ending.lay(digits);
+        self.word.lay(digits);
     }
 }
 
@@ -72,12 +71,12 @@ impl Stored for Thread {
         }
     }
 
-    fn write<W: fmt::Write>(&self, f: &mut fmt::Formatter<W>) -> fmt::Result {
+    fn lay(&self, digits: &mut Digits) {
         let record = Record {
             asleep: self.asleep,
             ..Record::from(self.at)
         };
-        record.write(f)
+        record.lay(digits);
     }
 }
 

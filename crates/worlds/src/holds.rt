@@ -3,20 +3,22 @@ use crate::label::{Label, List};
 use std::fmt;
 use world::World;
 
-// A table of holds has so many places for each thread: of mutexes and of RwLocks there are as many.
-const OBJECTS: usize = calls::MUTEXES;
+const OBJECTS: u8 = calls::MUTEXES as u8;
+
+const THREADS: u8 = queue::THREADS as u8;
 
 #[derive(Clone, Copy)]
 pub struct Holds<'a>(pub &'a World);
 
 impl fmt::Display for Holds<'_> {
     fn fmt<W: fmt::Write>(&self, f: &mut fmt::Formatter<W>) -> fmt::Result {
-        write_holders(f, "mutex", &self.0.locked)?;
-        write_holders(f, "write", &self.0.written)?;
-        write_readers(f, &self.0.reads)?;
-        for (object, count) in self.0.forgotten.iter().enumerate() {
+        let w = self.0;
+        write_holders(f, " mutex.", |object, t| w.holds_mutex(object, t))?;
+        write_holders(f, " write.", |object, t| w.holds_write(object, t))?;
+        write_readers(f, w)?;
+        for (object, count) in w.forgotten.iter().enumerate() {
             if *count != 0 {
-                let name = "forgotten";
+                let name = " forgotten.";
                 write!(f, "{}{count}", Label { name, object })?;
             }
         }
@@ -25,14 +27,17 @@ impl fmt::Display for Holds<'_> {
 }
 
 // Each thread that holds an object.
-fn write_holders<W: fmt::Write>(
+fn write_holders<W: fmt::Write, F: Fn(u8, u8) -> bool>(
     f: &mut fmt::Formatter<W>,
     name: &'static str,
-    table: &[bool],
-) -> fmt::Result {
+    holds: F,
+) -> fmt::Result
+    requires { F.IsAlwaysCallable holds }
+{
     for object in 0..OBJECTS {
-        for (t, holds) in table.iter().skip(object).step_by(OBJECTS).enumerate() {
-            if *holds {
+        for t in 0..THREADS {
+            if holds(object, t) {
+                let object = usize::from(object);
                 write!(f, "{}{t}", Label { name, object })?;
             }
         }
@@ -41,12 +46,14 @@ fn write_holders<W: fmt::Write>(
 }
 
 // Each thread that reads a lock, with how often.
-fn write_readers<W: fmt::Write>(f: &mut fmt::Formatter<W>, table: &[u32]) -> fmt::Result {
-    for object in 0..OBJECTS {
-        let name = "read";
+fn write_readers<W: fmt::Write>(f: &mut fmt::Formatter<W>, w: &World) -> fmt::Result {
+    for lock in 0..OBJECTS {
+        let name = " read.";
+        let object = usize::from(lock);
         let mut list = List::new(Label { name, object });
-        for (t, count) in table.iter().skip(object).step_by(OBJECTS).enumerate() {
-            if *count != 0 {
+        for t in 0..THREADS {
+            let count = w.reads(lock, t);
+            if count != 0 {
                 list.write_next(f)?;
                 write!(f, "{t}*{count}")?;
             }

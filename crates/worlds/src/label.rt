@@ -1,4 +1,4 @@
-// What stands before a value: a space, a name, the number of an object, and the sign between.
+// What stands before a value: a name behind a space, the number of an object, and the sign between.
 use calls::{CONDVARS, MUTEXES, ONCES, RWLOCKS};
 use std::fmt;
 
@@ -10,17 +10,17 @@ pub struct Label {
 
 impl fmt::Display for Label {
     fn fmt<W: fmt::Write>(&self, f: &mut fmt::Formatter<W>) -> fmt::Result {
-        write!(f, " {}.{}=", self.name, self.object)
+        write!(f, "{}{}=", self.name, self.object)
     }
 }
 
 // The kinds of words in the order of the row of all words, with how many there are. Behind them come the Parkers.
 const KINDS: [(&str, usize); 5] = [
-    ("mutex", MUTEXES),
-    ("rwlock", RWLOCKS),
-    ("writer_notify", RWLOCKS),
-    ("condvar", CONDVARS),
-    ("once", ONCES),
+    (" mutex.", MUTEXES),
+    (" rwlock.", RWLOCKS),
+    (" writer_notify.", RWLOCKS),
+    (" condvar.", CONDVARS),
+    (" once.", ONCES),
 ];
 
 impl Label {
@@ -34,7 +34,7 @@ impl Label {
             object -= count;
         }
         Label {
-            name: "parker",
+            name: " parker.",
             object,
         }
     }

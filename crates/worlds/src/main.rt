@@ -15,7 +15,7 @@ use holds::Holds;
 use queues::Queues;
 use replay_log::{RECORD, Refusal};
 use std::fmt;
-use std::io::{self, Cursor, Read, Write};
+use std::io::{self, Cursor, ErrorKind, Read, Write};
 use tally::Tally;
 use world::World;
 
@@ -113,9 +113,8 @@ impl Run {
 
     // Reads the next record, and answers its fields.
     fn next(&self, input: &mut impl Read) -> Result<Fields, End> {
-        let mut record = Cursor::new([0; RECORD]);
-        let _ = io::copy(&mut input.by_ref().take(RECORD as u64), &mut record);
-        let count = record.position() as usize;
+        let mut record = [0; RECORD];
+        let count = read_full(input, &mut record);
         if count < RECORD && input.bytes().next().is_some() {
             return Err(End::Unreadable);
         }
@@ -125,8 +124,26 @@ impl Run {
         if let Some(refusal) = replay_log::finish(self.number, count) {
             return Err(End::Refused(refusal));
         }
-        record::fields(record.get_ref()).ok_or(End::Refused(Refusal::BadMark))
+        record::fields(&record).ok_or(End::Refused(Refusal::BadMark))
     }
+}
+
+// Reads until the buffer is full, the input ends or a read fails, and answers how many bytes were read.
+fn read_full(input: &mut impl Read, buf: &mut [u8]) -> usize {
+    let mut count: usize = 0;
+    for _ in 0..u64::MAX {
+        let rest = buf.get_mut(count..).unwrap_or_default();
+        if rest.is_empty() {
+            break;
+        }
+        match input.read(rest) {
+            Ok(0) => break,
+            Ok(n) => count = count.saturating_add(n),
+            Err(error) if error.kind() == ErrorKind::Interrupted => {}
+            Err(_) => break,
+        }
+    }
+    count
 }
 
 // Where not even standard error can be written, nothing is said.
