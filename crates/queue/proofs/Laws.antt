@@ -10,6 +10,7 @@ use lib.Dec.{eqb, ltb}
 use lib.ListN.{length, get_or, replicate, length-set, length-take, length-append, length-replicate}
 use lib.Seq.{take-suc-set, take-append_seam, get_or-take, length-take-le}
 use Rattle.std.specs.Prelude.{Option}
+use Rattle.std.specs.List.{position}
 use Rattle.std.specs.Option.{unwrap_or}
 use Rattle.queue.specs.declared.Row.{Row}
 use Rattle.words.specs.Found.{found}
@@ -209,6 +210,11 @@ module _ (f : ℕ → Bool) (row : Row) where
   pub place-of-bound : row.count ≤ THREADS → place_of f row ≤ THREADS
   unfolding place_of
   place-of-bound k = place-bound f (sleepers row) (short k)
+
+  -- the place is what std's `position` finds
+  pub place_is : length row.places ≤ THREADS → position f (sleepers row) ≡ found THREADS (place_of f row)
+  unfolding place_of
+  place_is k = found-position f (sleepers row) (simp length-take (omega arith))
 
   -- a place found or not says which it is, THREADS where there is none
   pub place-of-or : length row.places ≤ THREADS → unwrap_or (found THREADS (place_of f row)) THREADS ≡ place_of f row

@@ -1,14 +1,17 @@
 -- What the loops over a row's places do, a turn at a time: the rest of them moved over one, one more pushed behind a part, a search for a place that is not 0. Assumes nothing.
-use mathlib.Core.Path.{◌≡◌, ap, ◌∙◌}
-use mathlib.Core.Bool.{Bool, true, false, not}
+use mathlib.Core.Path.{◌≡◌, refl, sym, ap, ◌∙◌}
+use mathlib.Core.Bool.{Bool, true, false, cond, not}
 use mathlib.Core.List.{List, [], ◌∷◌, ◌++◌, append-nil}
-use Prim.Native.Nat.{ℕ, zero, suc, ◌+◌, ◌-◌, ◌≤◌, ◌<◌}
+use Prim.Native.Nat.{ℕ, zero, suc, ◌+◌, ◌-◌, ◌≤◌, ◌<◌, min}
 use native.Mathlib.Numerals.{add-one}
 use native.Mathlib.Omega.{arith}
+use borrow.Author.Tests.{lt-ltb, ltb-true, ltb-false}
 use Rattle.std.specs.List.{copy_within}
+use lib.Dec.{ltb}
 use lib.ListN.{length, get_or, set, take, drop, replicate, length-append, length-drop, drop_of_length-le}
 use lib.Seq.{take_all, take-append-le, drop-cons, set_at, set-append_seam, append_snoc, length-take-le}
-use Rattle.queue.specs.Row.{THREADS, row_of, pushed, removed_at, removed, passing, failing}
+use Rattle.queue.specs.declared.Row.{Row}
+use Rattle.queue.specs.Row.{THREADS, sleepers, row_of, pushed, push_of, removed_at, removed, passing, failing}
 use Rattle.queue.proofs.Part.{removed-length, passing-length}
 use Rattle.std.proofs.lemmas.List.Elements.{filter_more}
 
@@ -39,6 +42,30 @@ removed-take p n [] h k = absurd (omega arith)
 removed-take zero n (x ∷ xs) h k = take-append-le n xs (0 ∷ []) (omega arith)
 removed-take (suc p) zero (x ∷ xs) h k = absurd (omega arith)
 removed-take (suc p) (suc n) (x ∷ xs) h k = ap (λ (r : List ℕ). x ∷ r) (removed-take p n xs (omega arith) (omega arith))
+
+-- the places that are used: a count past the last means all
+pub used-sleepers : (row : Row) (n : ℕ) → length row.places ≡ THREADS → n ≡ min row.count THREADS → take n row.places ≡ sleepers row
+used-sleepers row n e q = by (ltb row.count THREADS) refl
+  where
+    by : (c : Bool) → ltb row.count THREADS ≡ c → take n row.places ≡ take row.count row.places
+    by true k = let z : n ≡ row.count = omega (arith, ltb-true row.count THREADS k) in rw z
+    by false k =
+        let z : THREADS ≤ row.count = ltb-false row.count THREADS k in
+        take_all n row.places (omega arith) ∙ sym (take_all row.count row.places (omega arith))
+
+-- one more at the end of a part
+pub row-push : (l : List ℕ) (t : ℕ) → length l < THREADS → (push_of (row_of l) t).row ≡ row_of (l ++ (t ∷ []))
+unfolding push_of pushed row_of
+row-push l t h =
+    let n : length (l ++ (t ∷ [])) ≡ length l + 1 = length-append l (t ∷ []) in
+    let e : THREADS - length l ≡ suc (THREADS - (length l + 1)) = omega arith in
+    let z : List ℕ = replicate (THREADS - (length l + 1)) 0 in
+    rw (lt-ltb (length l) THREADS h, n, e, set-append_seam l 0 z t, append_snoc l t z)
+
+-- one more or none
+pub bit-bound : (c : Bool) → cond c 1 0 ≤ 1
+bit-bound true = omega arith
+bit-bound false = omega arith
 
 -- a row of those who fail a test among the first of a list, and one more of the list
 module _ (f : ℕ → Bool) (l : List ℕ) (i : ℕ) (h : i < length l) where

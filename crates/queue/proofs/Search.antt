@@ -29,6 +29,14 @@ found-tail f t ts p w = record {
   before = λ j h. w.before (suc j) (omega arith);
 }
 
+-- the search comes to the first
+first_of_found : (f : ℕ → Bool) (l : List ℕ) (p : ℕ) → Found f l p → position_or_len f l ≡ p
+first_of_found f [] p w = absurd (omega (arith, w.below))
+first_of_found f (t ∷ ts) zero w = rw w.passes
+first_of_found f (t ∷ ts) (suc p) w =
+    let e : f t ≡ false = w.before zero (omega arith) in
+    rw (e, first_of_found f ts p (found-tail f t ts p w)) (omega arith)
+
 -- where all fail, the search comes to the end of the list
 end_of_fails : (f : ℕ → Bool) (l : List ℕ) → AllFail f l → position_or_len f l ≡ length l
 end_of_fails f [] h = refl
@@ -52,6 +60,10 @@ position-agree f g l h = rw (same f g l h)
 -- the place that is found in a list, THREADS where none is
 abbrev pub place_in : (ℕ → Bool) → List ℕ → ℕ
 place_in f l = unwrap_or (position f l) THREADS
+
+-- the first is found
+pub place_found : (f : ℕ → Bool) (l : List ℕ) (p : ℕ) → Found f l p → place_in f l ≡ p
+place_found f l p w = rw (first_of_found f l p w, lt-ltb p (length l) w.below)
 
 -- where all fail, none is found
 pub place_none : (f : ℕ → Bool) (l : List ℕ) → AllFail f l → place_in f l ≡ THREADS

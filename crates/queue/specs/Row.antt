@@ -1,5 +1,5 @@
 -- One row of the threads that sleep, by number, in the order in which they fell asleep. The queue of one word is a part of it. Assumes nothing.
-use Rattle.std.specs.Prelude.{ℕ, suc, ◌+◌, ◌-◌, ◌<◌, ◌≡◌, Option, Some, None, Result, Ok, Err, Bool, true, false, cond, not, ◌&&◌, List, [], ◌∷◌, ◌++◌, eqb, ltb, leb, length, get_or, set, take, drop, replicate, filter, position}
+use Rattle.std.specs.Prelude.{ℕ, suc, ◌+◌, ◌-◌, Option, Some, None, Result, Ok, Err, Bool, true, false, cond, not, ◌&&◌, List, [], ◌∷◌, ◌++◌, eqb, ltb, leb, length, get_or, set, take, drop, replicate, filter, position}
 use Rattle.std.specs.List.{list_all}
 use Rattle.std.specs.Option.{unwrap_or}
 use Rattle.queue.specs.declared.Row.{Row}
@@ -89,10 +89,6 @@ take_out_of row p =
 -- who is taken out, if anybody is
 abbrev pub thread_of : Taken → Option ℕ
 thread_of a = cond a.ok (Some a.thread) None
-
--- a caller's test of a thread is f: of each number that it is called with, `post` allows the answer of f alone
-abbrev pub Tests : (ℕ → Bool → Type 0) → (ℕ → Bool) → Type 0
-Tests post f = (t : ℕ) (b : Bool) → t < 256 → post t b → b ≡ f t
 
 -- the place of the longest asleep of those who pass a test; THREADS where none passes
 unfoldable pub place_of : (ℕ → Bool) → Row → ℕ

@@ -3,9 +3,9 @@
 // thread. A row that is handed in may be any value of its type: every method has an answer for it.
 #![tactic(auto, unfolding(crate::specs::Row::is_tidy, crate::specs::Row::passing, crate::specs::Row::push_of, crate::specs::Row::pushed, crate::specs::Row::row_of, crate::specs::Row::take_out_of, crate::specs::Row::without_of))]
 
-ghost use Rattle.std.specs.Prelude.{ℕ, Bool, ◌≡◌};
+ghost use Rattle.std.specs.Prelude.{ℕ, Bool, ◌≡◌, position};
 ghost use Rattle.words.specs.Found.{found};
-ghost use Rattle.queue.specs.Row.{THREADS, sleepers, empty_row, push_of, answer_of, take_out_of, thread_of, Tests, place_of, without_of, occ, is_tidy};
+ghost use Rattle.queue.specs.Row.{THREADS, sleepers, empty_row, push_of, answer_of, take_out_of, thread_of, is_wanted, place_of, without_of, occ, is_tidy};
 
 // How many threads there are: so many places has a row, since no thread sleeps twice.
 pub const THREADS: usize = 32;
@@ -22,12 +22,28 @@ pub struct Row {
 #[derive(Clone, Copy)]
 pub struct Full;
 
-// Whether a thread passes a test.
-fn passes<F: Fn(u8) -> bool>(wanted: &F, thread: u8) -> bool
-    requires { F.IsAlwaysCallable wanted.now }
-    ensures { (f : ℕ → Bool) → Tests (F.post wanted.now) f → result ≡ f thread }
+// A test of a thread, by its number.
+pub trait Test: Drop {
+    ghost passes: { Self → ℕ → Bool };
+
+    fn passes(&self, thread: u8) -> bool
+        ensures { result ≡ passes self.now thread };
+}
+
+// A flag for each thread. A number that has no flag fails.
+impl Test for [bool; THREADS] {
+    ghost passes = { is_wanted };
+
+    fn passes(&self, thread: u8) -> bool {
+        self.get(thread as usize).copied().unwrap_or(false)
+    }
+}
+
+// The place in a list of threads of the first that passes a test.
+fn first<T: Test>(threads: &[u8], wanted: &T) -> Option<usize>
+    ensures { result ≡ position (T.passes wanted.now) threads.now }
 {
-    wanted(thread)
+    threads.iter().position(|thread| wanted.passes(*thread))
 }
 
 impl Row {
@@ -75,23 +91,20 @@ impl Row {
     }
 
     // The place of the longest asleep of those wanted.
-    pub fn place_of<F: Fn(u8) -> bool>(&self, wanted: F) -> Option<usize>
-        requires { F.IsAlwaysCallable wanted }
-        ensures { (f : ℕ → Bool) → Tests (F.post wanted) f → result ≡ found THREADS (place_of f self.now) }
+    #[tactic(auto, using(crate::proofs::Laws::place_is))]
+    pub fn place_of<T: Test>(&self, wanted: T) -> Option<usize>
+        ensures { result ≡ found THREADS (place_of (T.passes wanted) self.now) }
     {
-        self.sleepers()
-            .iter()
-            .position(|thread| passes(&wanted, *thread))
+        first(self.sleepers(), &wanted)
     }
 
     // The row without those wanted: the others keep their order.
-    pub fn without<F: Fn(u8) -> bool>(self, wanted: F) -> Row
-        requires { F.IsAlwaysCallable wanted }
-        ensures { (f : ℕ → Bool) → Tests (F.post wanted) f → result ≡ without_of f self }
+    pub fn without<T: Test>(self, wanted: T) -> Row
+        ensures { result ≡ without_of (T.passes wanted) self }
     {
         let mut rest = Row::new();
         for thread in self.sleepers() {
-            if !passes(&wanted, *thread) {
+            if !wanted.passes(*thread) {
                 rest.places[rest.count] = *thread;
                 rest.count += 1;
             }

@@ -2,17 +2,17 @@
 // sound: each has an answer for every world value.
 #![tactic(auto, unfolding(crate::specs::Acts::begin_of, crate::specs::Acts::close_of, crate::specs::Acts::recorded, crate::specs::Step::apply_plan, crate::specs::Step::own_plan, crate::specs::Step::wakes_of))]
 
-ghost use Rattle.std.specs.Prelude.{ℕ, Bool, ◌≡◌, length, set};
+ghost use Rattle.std.specs.Prelude.{◌≡◌, length, set};
 ghost use Rattle.std.specs.Option.{unwrap_or};
 ghost use Rattle.words.specs.Found.{found};
-ghost use Rattle.queue.specs.Row.{THREADS, Tests, is_wanted, queue_of, without_of, place_of, take_out_of, thread_of};
+ghost use Rattle.queue.specs.Row.{THREADS, is_wanted, queue_of, without_of, place_of, take_out_of, thread_of};
 ghost use Rattle.world.specs.World.{on_word};
 ghost use Rattle.step.specs.Step.{roused, rouse_all, woken_one, woken_all, wakes_of, locked_after, written_after, reads_after, slept_row, own_plan, apply_plan, step_of};
 ghost use Rattle.step.specs.Acts.{recorded, begin_of, only_of, wake_of, closed_at, close_of};
 
 use calls::{At, Event, Plan, Thread, WORDS};
 use once::Ending;
-use queue::{Row, THREADS};
+use queue::{Row, THREADS, Test};
 use words::{Hold, Wake};
 use world::World;
 
@@ -62,11 +62,26 @@ fn rouse_all(threads: &mut [Thread; THREADS], k: usize)
     }
 }
 
+// Whether a thread of the world sleeps on word k.
+#[derive(Clone, Copy)]
+struct OnWord<'a> {
+    world: &'a World,
+    k: usize,
+}
+
+impl Test for OnWord<'_> {
+    ghost passes = { λ s. on_word s.world.now.threads s.k };
+
+    fn passes(&self, thread: u8) -> bool {
+        world::sleeps_on(self.k, thread, self.world.thread(thread))
+    }
+}
+
 // The place in the row of the longest asleep on word k.
 fn first_on(w: &World, k: usize) -> Option<usize>
     ensures { result ≡ found THREADS (place_of (on_word w.now.threads k) w.now.sleepers) }
 {
-    w.sleepers.place_of(|t| world::sleeps_on(k, t, w.thread(t)))
+    w.sleepers.place_of(OnWord { world: w, k })
 }
 
 // The sleeper at a place leaves the row, if there is one.
@@ -91,10 +106,9 @@ fn wake_one(w: &mut World, place: Option<usize>) -> u8
 }
 
 // Those wanted leave the row. How many left.
-fn leave_all<F: Fn(u8) -> bool>(row: &mut Row, wanted: F) -> u8
-    requires { F.IsAlwaysCallable wanted }
-    ensures row { (f : ℕ → Bool) → Tests (F.post wanted) f → row.new ≡ without_of f row.old }
-    ensures count { (f : ℕ → Bool) → Tests (F.post wanted) f → result ≡ length (queue_of f row.old) }
+fn leave_all<T: Test>(row: &mut Row, wanted: T) -> u8
+    ensures row { row.new ≡ without_of (T.passes wanted) row.old }
+    ensures count { result ≡ length (queue_of (T.passes wanted) row.old) }
 {
     let before = row.count.min(THREADS);
     *row = row.without(wanted);
@@ -107,10 +121,7 @@ fn wake_all(w: &mut World, k: usize) -> u8
     ensures count { result ≡ (woken_all w.old k).count }
 {
     let before = *w;
-    let woken = leave_all(
-        &mut w.sleepers,
-        |t| world::sleeps_on(k, t, before.thread(t)),
-    );
+    let woken = leave_all(&mut w.sleepers, OnWord { world: &before, k });
     rouse_all(&mut w.threads, k);
     woken
 }
@@ -234,11 +245,25 @@ pub fn begin(w: World, t: u8, at: At) -> Acted
     record(w, t, Thread { at, asleep: false }, w.sleepers, Event::Begun)
 }
 
+// Whether a number is that of one thread; a number that is no thread's is nobody's.
+#[derive(Clone, Copy)]
+struct Only {
+    thread: u8,
+}
+
+impl Test for Only {
+    ghost passes = { λ s. is_wanted (only_of s.thread) };
+
+    fn passes(&self, thread: u8) -> bool {
+        thread == self.thread && (self.thread as usize) < THREADS
+    }
+}
+
 // The place in the row of thread t; a number that is no thread's has none.
 fn place_of_thread(row: &Row, t: u8) -> Option<usize>
     ensures { result ≡ found THREADS (place_of (is_wanted (only_of t)) row.now) }
 {
-    row.place_of(|other| other == t && (t as usize) < THREADS)
+    row.place_of(Only { thread: t })
 }
 
 // A spurious wake of thread t, which leaves the row from wherever it stands there.

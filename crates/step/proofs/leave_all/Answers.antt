@@ -4,7 +4,7 @@ use Rattle.step.proofs.Laws.{left_by}
 use Rattle.step.proofs.leave_all.Goals as goal
 
 pub returns-clause-count : goal.returns-clause-count
-returns-clause-count g c = λ f h.
+returns-clause-count g c =
     let row = c.args.row.now in
     let l : length row.places ≡ THREADS = search rules in
-    rw (c.saturating_sub.ensures, c.min-before.ensures, c.without.ensures f h) (left_by f row l)
+    rw (c.saturating_sub.ensures, c.min-before.ensures, c.without.ensures) (left_by (g.T.Test.passes c.args.wanted) row l)

@@ -1,8 +1,7 @@
-use Rattle.std.proofs.Common.{ℕ, Bool, ◌≡◌, ◌≤◌, length, take}
-use Rattle.queue.specs.Row.{THREADS, Tests, failing, row_of}
+use Rattle.std.proofs.Common.{◌≡◌, ◌≤◌, take}
+use Rattle.queue.specs.Row.{failing, row_of}
 use Rattle.queue.proofs.Row.without.Given as goal
 
 abbrev pub invariant-loop-thread : goal.invariant-loop-thread
 invariant-loop-thread g l =
-    (l.rest.count ≤ l.thread-index) × ((length l.rest.places ≡ THREADS) ×
-    ((f : ℕ → Bool) → Tests (goal.F-post g l.fn.wanted) f → l.rest ≡ row_of (failing f (take l.thread-index l.thread-items))))
+    (l.rest.count ≤ l.thread-index) × (l.rest ≡ row_of (failing (g.T.Test.passes l.fn.wanted) (take l.thread-index l.thread-items)))
