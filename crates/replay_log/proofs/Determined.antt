@@ -39,9 +39,12 @@ answered (Some R.NoNumber) = refl
 pub told-apart : ToldApart
 told-apart x y e = sym (answered x) ∙ (ap answer e ∙ answered y)
 
--- for `finish`: what is told of it determines it
-pub finish-determined : (number left : ℕ) (x y : Option Refusal) → number_told x ≡ finish_of number left → number_told y ≡ finish_of number left → x ≡ y
-finish-determined number left x y p q = told-apart x y (p ∙ sym q)
+-- for `finish`: the number told of it, and what is told of it determines it
+pub finish-determined : (number left : ℕ) → Determined (finish_of number left)
+finish-determined number left = determined (finish_of number left)
+
+pub refusal-determined : (number left : ℕ) (x y : Option Refusal) → number_told x ≡ finish_of number left → number_told y ≡ finish_of number left → x ≡ y
+refusal-determined number left x y p q = told-apart x y (p ∙ sym q)
 
 pub put-finish-determined :
     (out : List ℕ) (t : Tally) (number left : ℕ) →

@@ -1,11 +1,13 @@
 -- Which records the run stores in place, and what a turn of the run does. Nobody needs to believe these: no public contract cites them;
--- `quick-step` and `begin-step` in proofs/Quick.antt say that what is stored in place is the act. Assumes nothing.
+-- `quick-step` and `begin-step` in proofs/Quick.antt say that what `quick_of` and `quick_begin` let through is the act, `quick-does` and
+-- `begin-does` that what is stored in place is. Assumes nothing.
 use Rattle.std.specs.Prelude.{ℕ, ◌+◌, ◌<◌, Bool, true, false, not, ◌&&◌, ◌≡◌, eqb, ltb, leb, List, length, cond, Result, Ok, Err}
 use Rattle.queue.specs.Row.{THREADS}
 use Rattle.calls.specs.declared.Event.{Event}
 use Rattle.calls.specs.declared.Event.TheVariants as E
 use Rattle.calls.specs.declared.Thread.{Thread}
 use Rattle.calls.specs.Events.{tell_of}
+use Rattle.calls.specs.Objects.{WORDS}
 use Rattle.calls.specs.Positions.{may_wake, is_idle}
 use Rattle.tally.specs.Tally.{add_event, grants_of}
 use Rattle.lines.specs.Lines.{line_of, laid}
@@ -24,9 +26,13 @@ use Rattle.replay_log.specs.Run.{fields_of, ending_of, answer_of}
 use Rattle.acts.specs.Refusals.{BEGIN, STEP, fields_refusal, step_refusal}
 
 -- a step that is accepted and wakes nobody, of a thread with this record
-unfoldable pub quick_of : Bool → Fields → Thread → Bool
-quick_of sound a th =
+unfoldable pub calm_of : Bool → Fields → Thread → Bool
+calm_of sound a th =
     sound && eqb a.act STEP && ltb a.thread THREADS && eqb (fields_refusal a) 0 && eqb (step_refusal th a.choice) 0 && not (may_wake th.at)
+
+-- .. about word k
+unfoldable pub quick_of : Bool → Fields → Thread → ℕ → Bool
+quick_of sound a th k = calm_of sound a th && ltb k WORDS
 
 -- a begin that is accepted, of a thread with this record; `held`: whether the hold that the call needs is there
 unfoldable pub quick_begin : Bool → Fields → Thread → Bool → Bool

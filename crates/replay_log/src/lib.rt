@@ -1,6 +1,6 @@
 // The run of a log: records of ten bytes, one line for each, and a tally. A log can be run in parts, each
 // from the state that the part before it reached.
-#![tactic(auto, unfolding(step::specs::Acts::begin_of, step::specs::Acts::recorded, step::specs::Step::own_plan, crate::specs::InPlace::Acts, crate::specs::InPlace::Tells, crate::specs::InPlace::Turns, crate::specs::InPlace::quick_begin, crate::specs::InPlace::quick_of, crate::specs::InPlace::stored_by, crate::specs::InPlace::told_by, crate::specs::Run::answer_of, crate::specs::Run::ending_of, crate::specs::Run::finish_of, crate::specs::Run::mark_of))]
+#![tactic(auto, unfolding(step::specs::Acts::begin_of, step::specs::Acts::recorded, step::specs::Step::own_plan, crate::specs::InPlace::Acts, crate::specs::InPlace::Tells, crate::specs::InPlace::Turns, crate::specs::InPlace::calm_of, crate::specs::InPlace::quick_begin, crate::specs::InPlace::stored_by, crate::specs::InPlace::told_by, crate::specs::Run::answer_of, crate::specs::Run::ending_of, crate::specs::Run::finish_of, crate::specs::Run::mark_of))]
 
 ghost use Rattle.std.specs.Prelude.{◌≡◌, ◌-◌, ◌≤◌, ◌<◌, min, length, take, drop, IfSome};
 ghost use Rattle.queue.specs.Row.{THREADS};
@@ -10,7 +10,7 @@ ghost use Rattle.lines.specs.Lines.{lay_of};
 ghost use Rattle.world.specs.World.{thread_at};
 ghost use Rattle.replay_log.specs.Numbers.{number_of, number_told};
 ghost use Rattle.replay_log.specs.Run.{IsPrefixLen, fields_of, mark_of, ending_of, answer_of, run_of, Answers, carried_of, finish_of, finished_line, finished_of};
-ghost use Rattle.replay_log.specs.InPlace.{quick_of, quick_begin, told_by, stored_by, Does, Tells, Acts, Turns};
+ghost use Rattle.replay_log.specs.InPlace.{calm_of, quick_begin, told_by, stored_by, Does, Tells, Acts, Turns};
 
 use acts::{Action, Fields};
 use calls::{At, Event, Plan, Thread};
@@ -132,7 +132,7 @@ fn answer(sound: bool, w: World, a: Fields) -> Acted
 // Whether a record is a step of a thread with this record that is accepted and wakes nobody: it is run in
 // place, if the thread's word is there.
 fn is_quick(sound: bool, a: Fields, th: Thread) -> bool
-    ensures { result ≡ quick_of sound a th }
+    ensures { result ≡ calm_of sound a th }
 {
     sound
         && a.act == Action::Step as u8
