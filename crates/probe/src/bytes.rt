@@ -23,6 +23,20 @@ impl<'a> Case<'a> {
     pub fn take<T: Stored>(&mut self) -> T {
         T::take(self)
     }
+
+    // The next bytes. Past the end of a case all are 0.
+    pub fn bytes<const N: usize>(&mut self) -> [u8; N] {
+        if let Some((first, rest)) = self.rest.split_first_chunk::<N>() {
+            self.rest = rest;
+            return *first;
+        }
+        let mut bytes = [0; N];
+        for (byte, left) in bytes.iter_mut().zip(self.rest.iter()) {
+            *byte = *left;
+        }
+        self.rest = &[];
+        bytes
+    }
 }
 
 // The digits of a world's bytes.
@@ -36,13 +50,17 @@ pub struct Digits {
 }
 
 impl Digits {
-    fn lay(&mut self, byte: u8) {
+    pub fn lay<const N: usize>(&mut self, bytes: [u8; N]) {
         const OF: &[u8; 16] = b"0123456789abcdef";
-        if self.count < DIGITS - 1 {
-            self.text[self.count] = OF[(byte / 16) as usize];
-            self.text[self.count + 1] = OF[(byte % 16) as usize];
-            self.count += 2;
+        let mut at = self.count;
+        for byte in bytes {
+            if at < DIGITS - 1 {
+                self.text[at] = OF[(byte / 16) as usize];
+                self.text[at + 1] = OF[(byte % 16) as usize];
+                at += 2;
+            }
         }
+        self.count = at;
     }
 }
 
@@ -62,39 +80,13 @@ impl<T: Stored> fmt::Display for Hex<'_, T> {
     }
 }
 
-// Past the end of a case all bytes are 0.
-impl Stored for u8 {
-    fn take(case: &mut Case<'_>) -> u8 {
-        let Some((first, rest)) = case.rest.split_first() else {
-            return 0;
-        };
-        case.rest = rest;
-        *first
-    }
-
-    fn lay(&self, digits: &mut Digits) {
-        digits.lay(*self);
-    }
-}
-
-// Any byte but 0 is a yes.
-impl Stored for bool {
-    fn take(case: &mut Case<'_>) -> bool {
-        u8::take(case) != 0
-    }
-
-    fn lay(&self, digits: &mut Digits) {
-        u8::from(*self).lay(digits);
-    }
-}
-
 impl Stored for u32 {
     fn take(case: &mut Case<'_>) -> u32 {
-        u32::from_le_bytes(case.take())
+        u32::from_le_bytes(case.bytes())
     }
 
     fn lay(&self, digits: &mut Digits) {
-        self.to_le_bytes().lay(digits);
+        digits.lay(self.to_le_bytes());
     }
 }
 

@@ -29,33 +29,41 @@ pub enum Deed {
 
 impl Deed {
     pub fn take(case: &mut Case<'_>) -> Deed {
-        if case.take() {
+        let [alone] = case.bytes::<1>();
+        if is_yes(alone) {
+            let [thread, low, high] = case.bytes::<3>();
             return Deed::Solo {
-                thread: case.take(),
-                budget: u16::from_le_bytes(case.take()),
+                thread,
+                budget: u16::from_le_bytes([low, high]),
             };
         }
+        let [act, choice, thread, object] = case.bytes::<4>();
         Deed::Act(Fields {
-            act: case.take(),
-            choice: case.take(),
-            thread: case.take(),
-            object: case.take(),
+            act,
+            choice,
+            thread,
+            object,
             value: case.take(),
         })
     }
 }
 
+// Any byte but 0 is a yes.
+pub fn is_yes(byte: u8) -> bool {
+    byte != 0
+}
+
 impl Stored for Row {
     fn take(case: &mut Case<'_>) -> Row {
         Row {
-            places: case.take(),
-            count: usize::from_le_bytes(case.take()),
+            places: case.bytes(),
+            count: usize::from_le_bytes(case.bytes()),
         }
     }
 
     fn lay(&self, digits: &mut Digits) {
-        self.places.lay(digits);
-        self.count.to_le_bytes().lay(digits);
+        digits.lay(self.places);
+        digits.lay(self.count.to_le_bytes());
     }
 }
 
@@ -63,24 +71,24 @@ impl Stored for World {
     fn take(case: &mut Case<'_>) -> World {
         World {
             words: case.take(),
-            locked: case.take(),
-            written: case.take(),
+            locked: case.bytes().map(is_yes),
+            written: case.bytes().map(is_yes),
             reads: case.take(),
             forgotten: case.take(),
             threads: case.take(),
             sleepers: case.take(),
-            started: case.take(),
+            started: is_yes(case.bytes::<1>()[0]),
         }
     }
 
     fn lay(&self, digits: &mut Digits) {
         self.words.lay(digits);
-        self.locked.lay(digits);
-        self.written.lay(digits);
+        digits.lay(self.locked.map(u8::from));
+        digits.lay(self.written.map(u8::from));
         self.reads.lay(digits);
         self.forgotten.lay(digits);
         self.threads.lay(digits);
         self.sleepers.lay(digits);
-        self.started.lay(digits);
+        digits.lay([u8::from(self.started)]);
     }
 }

@@ -9,7 +9,7 @@ mod report;
 
 use case::CASE;
 use report::{LINE, Line};
-use std::io::{self, Cursor, Read, Write};
+use std::io::{self, Cursor, ErrorKind, Read, Write};
 
 // The bytes of the buffer in which the lines are laid.
 const LAID: usize = 65536;
@@ -49,11 +49,22 @@ fn say(rt: &impl Eprint, what: &str) {
     let _ = eprintln!(rt; "probe: {what}");
 }
 
-// Reads a case, until it is whole, the input ends or a read fails.
-fn read_case(input: &mut impl Read) -> Cursor<[u8; CASE]> {
-    let mut case = Cursor::new([0; CASE]);
-    let _ = io::copy(&mut input.by_ref().take(CASE as u64), &mut case);
-    case
+// Reads until the buffer is full, the input ends or a read fails, and answers how many bytes were read.
+fn read_full(input: &mut impl Read, buf: &mut [u8]) -> usize {
+    let mut count: usize = 0;
+    for _ in 0..u64::MAX {
+        let rest = buf.get_mut(count..).unwrap_or_default();
+        if rest.is_empty() {
+            break;
+        }
+        match input.read(rest) {
+            Ok(0) => break,
+            Ok(n) => count = count.saturating_add(n),
+            Err(error) if error.kind() == ErrorKind::Interrupted => {}
+            Err(_) => break,
+        }
+    }
+    count
 }
 
 // Lays and writes the line of each whole case, and answers how many bytes stand behind the last.
@@ -61,14 +72,14 @@ fn tell_cases(
     rt: &(impl Print + Eprint),
     input: &mut impl Read,
     lines: &mut Lines,
-) -> io::Result<u64> {
+) -> io::Result<usize> {
+    let mut case = [0; CASE];
     for _ in 0..u64::MAX {
-        let case = read_case(input);
-        let count = case.position();
-        if count < CASE as u64 {
+        let count = read_full(input, &mut case);
+        if count < CASE {
             return Ok(count);
         }
-        let _ = writeln!(lines.laid, "{}", Line(case.get_ref()));
+        let _ = writeln!(lines.laid, "{}", Line(&case));
         if !lines.have_room() {
             lines.write_out(rt)?;
         }

@@ -3,6 +3,7 @@
 ghost use Rattle.std.specs.Prelude.{◌<◌};
 
 use crate::bytes::{Case, Digits, Stored};
+use crate::case::is_yes;
 use calls::{At, Thread};
 use condvar::{CondvarAt, NotifyAt};
 use mutex::{LockAt, MutexAt, UnlockAt};
@@ -36,28 +37,40 @@ struct Record {
 
 impl Stored for Record {
     fn take(case: &mut Case<'_>) -> Record {
+        let [
+            position,
+            asleep,
+            object,
+            mutex,
+            left,
+            call_flag,
+            place_flag,
+            ending,
+        ] = case.bytes::<8>();
         Record {
-            position: case.take(),
-            asleep: case.take(),
-            object: case.take(),
-            mutex: case.take(),
-            left: case.take(),
-            call_flag: case.take(),
-            place_flag: case.take(),
-            ending: case.take(),
+            position,
+            asleep: is_yes(asleep),
+            object,
+            mutex,
+            left,
+            call_flag: is_yes(call_flag),
+            place_flag: is_yes(place_flag),
+            ending,
             word: case.take(),
         }
     }
 
     fn lay(&self, digits: &mut Digits) {
-        self.position.lay(digits);
-        self.asleep.lay(digits);
-        self.object.lay(digits);
-        self.mutex.lay(digits);
-        self.left.lay(digits);
-        self.call_flag.lay(digits);
-        self.place_flag.lay(digits);
-        self.ending.lay(digits);
+        digits.lay([
+            self.position,
+            u8::from(self.asleep),
+            self.object,
+            self.mutex,
+            self.left,
+            u8::from(self.call_flag),
+            u8::from(self.place_flag),
+            self.ending,
+        ]);
         self.word.lay(digits);
     }
 }
